@@ -1,0 +1,125 @@
+-- The laws of `all`, `any` and `count`. Assumes nothing.
+use mathlib.Core.Path.{_≡_, refl, sym, ap, ap₂, _∙_, subst}
+use mathlib.Core.Bool.{Bool, true, false, cond, _&&_, _||_, not, or-true, or-false}
+use mathlib.Core.Logic.{_⊎_, inl, inr}
+use Prim.Native.Nat.{ℕ, zero, suc, _+_, _≤_, _<_, zero-le}
+use native.Mathlib.Nat.{le-of-suc-le-suc, not-suc-le-zero, le-step, le-refl, lt-suc-self, eq-or-lt-of-le}
+use native.Mathlib.Numerals.{add-one}
+use native.Mathlib.Omega.{arith}
+use borrow.Author.Tests.{eq-eqb, ne-eqb}
+use lib.Dec.{eqb}
+use Rattle.task_set.specs.Bounded.{all, any, count}
+use Rattle.task_set.proofs.Truth.{clash, off, and-left, and-right, or-left, or-right, or-cases, or-none}
+
+-- what holds below n and at n holds below suc n
+pub below-suc : (P : ℕ → Type 0) (n : ℕ) → ((i : ℕ) → i < n → P i) → P n → (i : ℕ) → i < suc n → P i
+below-suc P n f e i l = go (eq-or-lt-of-le (le-of-suc-le-suc l))
+  where
+    go : (i ≡ n) ⊎ (i < n) → P i
+    go (inl q) = subst P (sym q) e
+    go (inr m) = f i m
+
+-- ---- every
+
+pub all-intro : (n : ℕ) (p : ℕ → Bool) → ((i : ℕ) → i < n → p i ≡ true) → all n p ≡ true
+unfolding all
+all-intro zero p h = refl
+all-intro (suc n) p h = ap₂ _&&_ (all-intro n p (λ i l. h i (le-step l))) (h n (lt-suc-self n))
+
+pub all-elim : (n : ℕ) (p : ℕ → Bool) → all n p ≡ true → (i : ℕ) → i < n → p i ≡ true
+unfolding all
+all-elim zero p e i l = absurd (not-suc-le-zero l)
+all-elim (suc n) p e i l =
+    below-suc (λ i. p i ≡ true) n (all-elim n p (and-left (all n p) (p n) e)) (and-right (all n p) (p n) e) i l
+
+-- a loop's next step
+pub all-next : (n : ℕ) (p : ℕ → Bool) → all (n + 1) p ≡ all n p && p n
+unfolding all
+all-next n p = ap (λ (k : ℕ). all k p) (add-one n)
+
+-- ---- some
+
+pub any-intro : (n : ℕ) (p : ℕ → Bool) (i : ℕ) → i < n → p i ≡ true → any n p ≡ true
+unfolding any
+any-intro zero p i l e = absurd (not-suc-le-zero l)
+any-intro (suc n) p i l e =
+    below-suc (λ i. p i ≡ true → any n p || p n ≡ true) n (λ i m f. or-left (p n) (any-intro n p i m f)) (or-right (any n p)) i l e
+
+pub any-none : (n : ℕ) (p : ℕ → Bool) → ((i : ℕ) → i < n → p i ≡ false) → any n p ≡ false
+unfolding any
+any-none zero p h = refl
+any-none (suc n) p h = or-none (any-none n p (λ i l. h i (le-step l))) (h n (lt-suc-self n))
+
+pub any-off : (n : ℕ) (p : ℕ → Bool) → any n p ≡ false → (i : ℕ) → i < n → p i ≡ false
+any-off n p e i l = off (p i) (λ f. clash (any-intro n p i l f) e)
+
+pub any-elim : (n : ℕ) (p : ℕ → Bool) → any n p ≡ true → (i : ℕ) × (i < n) × (p i ≡ true)
+unfolding any
+any-elim zero p e = absurd (clash e refl)
+any-elim (suc n) p e = go (or-cases (any n p) (p n) e) (any-elim n p)
+  where
+    go : (any n p ≡ true) ⊎ (p n ≡ true) → (any n p ≡ true → (i : ℕ) × (i < n) × (p i ≡ true)) → (i : ℕ) × (i < suc n) × (p i ≡ true)
+    go (inl f) ih = let r = ih f in (r .0, le-step (r .1), r .2)
+    go (inr f) ih = (n, lt-suc-self n, f)
+
+-- a loop's next step
+pub any-next : (n : ℕ) (p : ℕ → Bool) → any (n + 1) p ≡ any n p || p n
+unfolding any
+any-next n p = ap (λ (k : ℕ). any k p) (add-one n)
+
+-- ---- how many
+
+pub count-cong : (n : ℕ) (p q : ℕ → Bool) → ((i : ℕ) → i < n → p i ≡ q i) → count n p ≡ count n q
+unfolding count
+count-cong zero p q h = refl
+count-cong (suc n) p q h =
+    ap₂ (λ (k : ℕ) (b : Bool). k + cond b 1 0) (count-cong n p q (λ i l. h i (le-step l))) (h n (lt-suc-self n))
+
+-- the count begun at 0 instead of ended at n
+pub count-front : (n : ℕ) (p : ℕ → Bool) → count (suc n) p ≡ cond (p 0) 1 0 + count n (λ i. p (suc i))
+unfolding count
+count-front zero p = omega arith
+count-front (suc n) p = omega (arith, count-front n p)
+
+pub count-none : (n : ℕ) (p : ℕ → Bool) → ((i : ℕ) → i < n → p i ≡ false) → count n p ≡ 0
+unfolding count
+count-none zero p h = refl
+count-none (suc n) p h = ap₂ (λ (k : ℕ) (b : Bool). k + cond b 1 0) (count-none n p (λ i l. h i (le-step l))) (h n (lt-suc-self n))
+
+pub count-le : (n : ℕ) (p : ℕ → Bool) → count n p ≤ n
+unfolding count
+count-le zero p = zero-le
+count-le (suc n) p = go (p n) (count-le n p)
+  where
+    go : (b : Bool) → count n p ≤ n → count n p + cond b 1 0 ≤ suc n
+    go true l = omega arith
+    go false l = omega arith
+
+-- as many as there are numbers: each of them
+pub count-full : (n : ℕ) (p : ℕ → Bool) → count n p ≡ n → (i : ℕ) → i < n → p i ≡ true
+unfolding count
+count-full zero p e i l = absurd (not-suc-le-zero l)
+count-full (suc n) p e i l = go (p n) refl e (count-full n p)
+  where
+    go : (b : Bool) → p n ≡ b → count n p + cond b 1 0 ≡ suc n → (count n p ≡ n → (i : ℕ) → i < n → p i ≡ true) → p i ≡ true
+    go true f e ih = below-suc (λ i. p i ≡ true) n (ih (omega arith)) f i l
+    go false f e ih = absurd (omega (arith, count-le n p))
+
+-- one number more
+pub count-more : (n : ℕ) (p : ℕ → Bool) (t : ℕ) → t < n → p t ≡ false → count n (λ i. p i || eqb t i) ≡ suc (count n p)
+unfolding count
+count-more zero p t l e = absurd (not-suc-le-zero l)
+count-more (suc n) p t l e = go (eq-or-lt-of-le (le-of-suc-le-suc l)) (count-more n p t)
+  where
+    others : (i : ℕ) → i < n → t ≡ n → p i || eqb t i ≡ p i
+    others i m q = ap (λ (b : Bool). p i || b) (ne-eqb t i (λ f. omega arith)) ∙ or-false (p i)
+
+    at : (x : Bool) → p n || x ≡ true → p n ≡ false → count n p + cond (p n || x) 1 0 ≡ suc (count n p + cond (p n) 1 0)
+    at x f g = rw (f, g) (omega arith)
+
+    go : (t ≡ n) ⊎ (t < n) → (t < n → p t ≡ false → count n (λ i. p i || eqb t i) ≡ suc (count n p))
+        → count n (λ i. p i || eqb t i) + cond (p n || eqb t n) 1 0 ≡ suc (count n p + cond (p n) 1 0)
+    go (inl q) ih =
+        rw (count-cong n (λ i. p i || eqb t i) p (λ i m. others i m q))
+        (at (eqb t n) (or-right (p n) (eq-eqb t n q)) (subst (λ (x : ℕ). p x ≡ false) q e))
+    go (inr m) ih = rw (ih m e, ne-eqb t n (λ f. omega arith), or-false (p n)) (omega arith)

@@ -1,0 +1,6 @@
+-- The laws that belong to no one function.
+pub mod Truth
+pub mod Bounded
+pub mod Search
+pub mod Cover
+pub mod Members

@@ -1,0 +1,205 @@
+-- The laws of membership, each once over the width. Assumes nothing.
+use mathlib.Core.Path.{_≡_, refl, sym, ap, ap₂, _∙_, subst}
+use mathlib.Core.Bool.{Bool, true, false, cond, _&&_, _||_, not, and-true, and-false, or-false}
+use mathlib.Core.Logic.{_⊎_, inl, inr}
+use Prim.Native.Nat.{ℕ, zero, suc, _+_, _-_, _*_, _/_, _%_, _^_, _≤_, _<_, suc-le-suc, min, max}
+use native.Mathlib.Nat.{le-of-suc-le-suc, not-suc-le-zero, zero-lt-suc, le-refl, mod-lt, div-one, div-eq-of-lt, zero-div, div-add-mod', lt-of-lt-of-le, lt-of-le-of-lt, div-lt-iff-lt-mul, pow-suc, one-mul, mod-le}
+use native.Mathlib.Numerals.{one-add, add-one}
+use native.Mathlib.Omega.{arith}
+use lib.Arith.{digits-div, digits-mod, lt-one}
+use lib.Bits.{bitAnd, bitOr, and-step, or-step, and-le-l, shifted-even, shifted-half}
+use lib.Count.{ones, ones-step, trailingZeros, under}
+use lib.Dec.{eqb, ltb, eqb·zero-suc, eqb·suc-suc, lit<}
+use lib.Pow.{pow-pos, pow-mono, shl-exact, shr-shr, field, mod-mod-pow}
+use borrow.Author.Tests.{eq-eqb, eqb-true, ne-eqb, lt-ltb, le-ltb, ltb-true, ltb-false}
+use Rattle.task_set.specs.Bounded.{all, count, first, implies}
+use Rattle.task_set.specs.Sets.{width, has, insert, below, subset, lowest, size}
+use Rattle.task_set.proofs.Truth.{clash, by-test, same}
+use Rattle.task_set.proofs.Bounded.{all-intro, all-elim, count-cong, count-front}
+use Rattle.task_set.proofs.Search.{First, first-is, first-cong}
+
+two-pos : zero < 2
+two-pos = zero-lt-suc 1
+
+-- a digit is 0 or 1
+digit : (P : ℕ → Type 0) → P 0 → P 1 → (x : ℕ) → x < 2 → P x
+digit P a b zero l = a
+digit P a b (suc zero) l = b
+digit P a b (suc (suc x)) l = absurd (not-suc-le-zero (le-of-suc-le-suc (le-of-suc-le-suc l)))
+
+half-lt : {n : ℕ} (k : ℕ) → n < 2 ^ suc k → n / 2 < 2 ^ k
+half-lt {n} k h = div-lt-iff-lt-mul two-pos .1 (subst (λ (x : ℕ). n < x) (pow-suc 2 k) h)
+
+-- ---- the lowest digit, and the rest
+
+has-zero : (s : ℕ) → has s 0 ≡ eqb (s % 2) 1
+unfolding has
+has-zero s = ap (λ (x : ℕ). eqb (x % 2) 1) (div-one s)
+
+has-suc : (s t : ℕ) → has s (suc t) ≡ has (s / 2) t
+unfolding has
+has-suc s t = ap (λ (x : ℕ). eqb (x % 2) 1) (ap (λ (x : ℕ). s / 2 ^ x) (sym (one-add t)) ∙ sym (shr-shr s 1 t))
+
+-- ---- the empty set, and numbers past the width
+
+pub has-none : (t : ℕ) → has 0 t ≡ false
+unfolding has
+has-none t = ap (λ (x : ℕ). eqb (x % 2) 1) (zero-div (2 ^ t))
+
+pub has-past : {s : ℕ} (k t : ℕ) → s < 2 ^ k → k ≤ t → has s t ≡ false
+unfolding has
+has-past k t h l = ap (λ (x : ℕ). eqb (x % 2) 1) (div-eq-of-lt (lt-of-lt-of-le h (pow-mono l)))
+
+-- ---- an operation that goes digit by digit, with f on numbers for g on truth values
+
+Agrees : (ℕ → ℕ → ℕ) → (Bool → Bool → Bool) → ℕ → ℕ → Type 0
+Agrees f g x y = (f x y < 2) × (eqb (f x y) 1 ≡ g (eqb x 1) (eqb y 1))
+
+module _ (op f : ℕ → ℕ → ℕ) (g : Bool → Bool → Bool)
+    (step : (a b : ℕ) → op a b ≡ op (a / 2) (b / 2) * 2 + f (a % 2) (b % 2))
+    (table : (x : ℕ) → x < 2 → (y : ℕ) → y < 2 → Agrees f g x y) where
+  low : (a b : ℕ) → Agrees f g (a % 2) (b % 2)
+  low a b = table (a % 2) (mod-lt a two-pos) (b % 2) (mod-lt b two-pos)
+
+  has-op : (t a b : ℕ) → has (op a b) t ≡ g (has a t) (has b t)
+  unfolding Agrees
+  has-op zero a b =
+      has-zero (op a b) ∙ ap (λ (x : ℕ). eqb (x % 2) 1) (step a b)
+      ∙ ap (λ (x : ℕ). eqb x 1) (digits-mod (op (a / 2) (b / 2)) (low a b .0)) ∙ low a b .1
+      ∙ ap₂ g (sym (has-zero a)) (sym (has-zero b))
+  has-op (suc t) a b =
+      has-suc (op a b) t ∙ ap (λ (x : ℕ). has (x / 2) t) (step a b)
+      ∙ ap (λ (x : ℕ). has x t) (digits-div (op (a / 2) (b / 2)) (low a b .0))
+      ∙ has-op t (a / 2) (b / 2) ∙ ap₂ g (sym (has-suc a t)) (sym (has-suc b t))
+
+pub has-and : (t a b : ℕ) → has (bitAnd a b) t ≡ has a t && has b t
+unfolding Agrees
+has-and =
+    has-op bitAnd min _&&_ and-step
+    (digit (λ (x : ℕ). (y : ℕ) → y < 2 → Agrees min _&&_ x y)
+    (digit (Agrees min _&&_ 0) (two-pos, refl) (two-pos, refl))
+    (digit (Agrees min _&&_ 1) (two-pos, refl) (le-refl 2, refl)))
+
+pub has-or : (t a b : ℕ) → has (bitOr a b) t ≡ has a t || has b t
+unfolding Agrees
+has-or =
+    has-op bitOr max _||_ or-step
+    (digit (λ (x : ℕ). (y : ℕ) → y < 2 → Agrees max _||_ x y)
+    (digit (Agrees max _||_ 0) (two-pos, refl) (le-refl 2, refl))
+    (digit (Agrees max _||_ 1) (le-refl 2, refl) (le-refl 2, refl)))
+
+-- ---- one member, and one member more
+
+-- the word with one bit, as a shift makes it
+pub shifted-one : (t : ℕ) → t < width → 1 * 2 ^ t % 2 ^ width ≡ 2 ^ t
+shifted-one t l = shl-exact {a = 1} 1 t width (lit< tt) (omega arith) ∙ one-mul (2 ^ t)
+
+pub has-one : (t i : ℕ) → has (2 ^ t) i ≡ eqb t i
+has-one zero zero = has-zero 1
+has-one zero (suc i) = has-suc 1 i ∙ has-none i ∙ sym (eqb·zero-suc i)
+has-one (suc t) zero =
+    has-zero (2 ^ suc t) ∙ ap (λ (x : ℕ). eqb x 1) (ap (λ (x : ℕ). x % 2) (sym (one-mul (2 ^ suc t))) ∙ shifted-even 1 t)
+    ∙ sym (ne-eqb (suc t) 0 (λ e. omega arith))
+has-one (suc t) (suc i) =
+    has-suc (2 ^ suc t) i
+    ∙ ap (λ (x : ℕ). has x i) (ap (λ (x : ℕ). x / 2) (sym (one-mul (2 ^ suc t))) ∙ shifted-half 1 t ∙ one-mul (2 ^ t))
+    ∙ has-one t i ∙ sym (eqb·suc-suc t i)
+
+pub has-insert : (s t i : ℕ) → t < width → has (insert s t) i ≡ has s i || eqb t i
+unfolding insert
+has-insert s t i l = rw (lt-ltb t width l) (has-or i s (2 ^ t) ∙ ap (λ (b : Bool). has s i || b) (has-one t i))
+
+-- ---- the members below a number
+
+pub has-below : (s n t : ℕ) → has (below s n) t ≡ has s t && ltb t n
+unfolding has below
+has-below s n t = by-test (ltb t n) inside outside
+  where
+    digit-kept : (j : ℕ) → n ≡ suc j + t → s % 2 ^ n / 2 ^ t % 2 ≡ s / 2 ^ t % 2
+    digit-kept j e = rw (e, field s (suc j) t, ← add-one j) (mod-mod-pow (s / 2 ^ t) j 1)
+
+    inside : ltb t n ≡ true → eqb (s % 2 ^ n / 2 ^ t % 2) 1 ≡ eqb (s / 2 ^ t % 2) 1 && ltb t n
+    inside e =
+        ap (λ (x : ℕ). eqb x 1) (digit-kept (n - suc t) (omega (arith, ltb-true t n e)))
+        ∙ sym (rw e (and-true (eqb (s / 2 ^ t % 2) 1)))
+
+    outside : ltb t n ≡ false → eqb (s % 2 ^ n / 2 ^ t % 2) 1 ≡ eqb (s / 2 ^ t % 2) 1 && ltb t n
+    outside e =
+        ap (λ (x : ℕ). eqb (x % 2) 1) (div-eq-of-lt (lt-of-lt-of-le (mod-lt s (pow-pos n)) (pow-mono (ltb-false t n e))))
+        ∙ sym (rw e (and-false (eqb (s / 2 ^ t % 2) 1)))
+
+-- ---- equal members make equal sets
+
+same-digit : (x : ℕ) → x < 2 → (y : ℕ) → y < 2 → eqb x 1 ≡ eqb y 1 → x ≡ y
+same-digit =
+    digit (λ (x : ℕ). (y : ℕ) → y < 2 → eqb x 1 ≡ eqb y 1 → x ≡ y)
+    (digit (λ (y : ℕ). false ≡ eqb y 1 → 0 ≡ y) (λ e. refl) (λ e. absurd (clash refl (sym e))))
+    (digit (λ (y : ℕ). true ≡ eqb y 1 → 1 ≡ y) (λ e. absurd (clash refl e)) (λ e. refl))
+
+pub set-ext : (k a b : ℕ) → a < 2 ^ k → b < 2 ^ k → ((t : ℕ) → t < k → has a t ≡ has b t) → a ≡ b
+set-ext zero a b ha hb h = lt-one ha ∙ sym (lt-one hb)
+set-ext (suc k) a b ha hb h =
+    sym (div-add-mod' a 2)
+    ∙ ap₂ (λ (x y : ℕ). x * 2 + y)
+    (set-ext k (a / 2) (b / 2) (half-lt k ha) (half-lt k hb) (λ t l. sym (has-suc a t) ∙ h (suc t) (suc-le-suc l) ∙ has-suc b t))
+    (same-digit (a % 2) (mod-lt a two-pos) (b % 2) (mod-lt b two-pos) (sym (has-zero a) ∙ h 0 (zero-lt-suc k) ∙ has-zero b))
+    ∙ div-add-mod' b 2
+
+-- ---- a subset, by a mask
+
+meet-implies : (x y : Bool) → x && y ≡ x → implies x y ≡ true
+meet-implies true y e = e
+meet-implies false y e = refl
+
+implies-meet : (x y : Bool) → implies x y ≡ true → x && y ≡ x
+implies-meet true y e = e
+implies-meet false y e = refl
+
+-- a mask keeps a whole exactly if each member passes
+kept : (k a m : ℕ) (q : ℕ → Bool) → a < 2 ^ k → m < 2 ^ k → ((t : ℕ) → has m t ≡ has a t && q t) → eqb m a ≡ all k (λ t. implies (has a t) (q t))
+kept k a m q ha hm h =
+    same (eqb m a) (all k (λ t. implies (has a t) (q t)))
+    (λ e. all-intro k (λ t. implies (has a t) (q t)) (λ t l. meet-implies (has a t) (q t) (sym (h t) ∙ ap (λ (x : ℕ). has x t) (eqb-true m a e))))
+    (λ e. eq-eqb m a
+    (set-ext k m a hm ha (λ t l. h t ∙ implies-meet (has a t) (q t) (all-elim k (λ t. implies (has a t) (q t)) e t l))))
+
+pub subset-mask : (k a b : ℕ) → a < 2 ^ k → eqb (bitAnd a b) a ≡ all k (λ t. implies (has a t) (has b t))
+subset-mask k a b l = kept k a (bitAnd a b) (has b) l (lt-of-le-of-lt (and-le-l a b) l) (λ t. has-and t a b)
+
+pub below-mask : (k s n : ℕ) → s < 2 ^ k → eqb (below s n) s ≡ all k (λ t. implies (has s t) (ltb t n))
+unfolding below
+below-mask k s n l = kept k s (below s n) (λ t. ltb t n) l (lt-of-le-of-lt (mod-le s (2 ^ n)) l) (has-below s n)
+
+-- ---- the lowest member is the first one
+
+under-cond : (x n : ℕ) → x < 2 → under x n ≡ cond (eqb x 1) 0 (suc n)
+under-cond x n = digit (λ (y : ℕ). under y n ≡ cond (eqb y 1) 0 (suc n)) refl refl x
+
+pub trailing-first : (k s : ℕ) → trailingZeros k s ≡ first k (has s)
+unfolding trailingZeros first
+trailing-first zero s = refl
+trailing-first (suc k) s =
+    under-cond (s % 2) (trailingZeros k (s / 2)) (mod-lt s two-pos)
+    ∙ ap₂ (λ (b : Bool) (n : ℕ). cond b 0 (suc n)) (sym (has-zero s))
+    (trailing-first k (s / 2) ∙ first-cong k (has (s / 2)) (λ i. has s (suc i)) (λ i l. sym (has-suc s i)))
+
+pub lowest-first : (s : ℕ) → First width (has s) (lowest s)
+unfolding lowest
+lowest-first s = first-is width (has s)
+
+-- ---- the count of ones is the number of members, and of a masked set the number of members that pass
+
+digit-cond : (x : ℕ) → x < 2 → x ≡ cond (eqb x 1) 1 0
+digit-cond = digit (λ (y : ℕ). y ≡ cond (eqb y 1) 1 0) refl refl
+
+pub ones-count : (k s : ℕ) → s < 2 ^ k → ones s ≡ count k (has s)
+unfolding ones count
+ones-count zero s h = ap ones (lt-one h)
+ones-count (suc k) s h =
+    ones-step s
+    ∙ ap₂ (λ (x y : ℕ). x + y) (digit-cond (s % 2) (mod-lt s two-pos) ∙ ap (λ (b : Bool). cond b 1 0) (sym (has-zero s)))
+    (ones-count k (s / 2) (half-lt k h) ∙ count-cong k (has (s / 2)) (λ i. has s (suc i)) (λ i l. sym (has-suc s i)))
+    ∙ sym (count-front k (has s))
+
+pub ones-masked : (k s m : ℕ) → bitAnd s m < 2 ^ k → ones (bitAnd s m) ≡ count k (λ t. has s t && has m t)
+ones-masked k s m h = ones-count k (bitAnd s m) h ∙ count-cong k (has (bitAnd s m)) (λ t. has s t && has m t) (λ t l. has-and t s m)

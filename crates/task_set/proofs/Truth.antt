@@ -1,0 +1,56 @@
+-- Facts of truth values. Assumes nothing.
+use mathlib.Core.Path.{_≡_, refl, sym, ap, _∙_}
+use mathlib.Core.Bool.{Bool, true, false, _&&_, _||_, not, true≢false}
+use mathlib.Core.Logic.{_⊎_, inl, inr}
+
+-- nothing is both true and false
+pub clash : {b : Bool} → b ≡ true → b ≡ false → ⊥
+clash e f = true≢false (sym e ∙ f)
+
+-- by cases on a test
+pub by-test : {P : Type 0} (b : Bool) → (b ≡ true → P) → (b ≡ false → P) → P
+by-test true f g = f refl
+by-test false f g = g refl
+
+-- what is not true is false
+pub off : (b : Bool) → (b ≡ true → ⊥) → b ≡ false
+off true f = absurd (f refl)
+off false f = refl
+
+-- two truth values that follow from each other
+pub same : (a b : Bool) → (a ≡ true → b ≡ true) → (b ≡ true → a ≡ true) → a ≡ b
+same true b f g = sym (f refl)
+same false b f g = sym (off b (λ e. clash (g e) refl))
+
+pub and-left : (a b : Bool) → a && b ≡ true → a ≡ true
+and-left true b e = refl
+and-left false b e = e
+
+pub and-right : (a b : Bool) → a && b ≡ true → b ≡ true
+and-right true b e = e
+and-right false b e = absurd (clash e refl)
+
+pub and-both : {a b : Bool} → a ≡ true → b ≡ true → a && b ≡ true
+and-both {a} {b} e f = ap (λ (x : Bool). x && b) e ∙ f
+
+pub or-left : {a : Bool} (b : Bool) → a ≡ true → a || b ≡ true
+or-left b e = ap (λ (x : Bool). x || b) e
+
+pub or-right : (a : Bool) {b : Bool} → b ≡ true → a || b ≡ true
+or-right true e = refl
+or-right false e = e
+
+pub or-cases : (a b : Bool) → a || b ≡ true → (a ≡ true) ⊎ (b ≡ true)
+or-cases true b e = inl refl
+or-cases false b e = inr e
+
+pub or-none : {a b : Bool} → a ≡ false → b ≡ false → a || b ≡ false
+or-none {a} {b} e f = ap (λ (x : Bool). x || b) e ∙ f
+
+pub or-left-off : (a b : Bool) → a || b ≡ false → a ≡ false
+or-left-off true b e = e
+or-left-off false b e = refl
+
+pub or-right-off : (a b : Bool) → a || b ≡ false → b ≡ false
+or-right-off true b e = absurd (clash refl e)
+or-right-off false b e = e

@@ -1,0 +1,3 @@
+-- The definitions that the contracts of `task_set` cite.
+pub mod Bounded
+pub mod Sets

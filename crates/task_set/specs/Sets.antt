@@ -1,0 +1,34 @@
+-- Sets of task numbers as 64-bit words: "a set of 64 bits, bit t for task t" (document 01, "The plan"). Assumes nothing.
+use mathlib.Core.Bool.{Bool, cond}
+use Prim.Native.Nat.{ℕ, _/_, _%_, _^_}
+use lib.Dec.{eqb, ltb}
+use lib.Bits.{bitOr}
+use Rattle.task_set.specs.Bounded.{all, count, first, implies}
+
+-- how many numbers can be members
+abbrev pub width : ℕ
+width = 64
+
+-- t is a member of s
+unfoldable pub has : ℕ → ℕ → Bool
+has s t = eqb (s / 2 ^ t % 2) 1
+
+-- s and the member t; a number too large to be a member adds nothing
+unfoldable pub insert : ℕ → ℕ → ℕ
+insert s t = cond (ltb t width) (bitOr s (2 ^ t)) s
+
+-- the members of s below n
+unfoldable pub below : ℕ → ℕ → ℕ
+below s n = s % 2 ^ n
+
+-- every member of a is a member of b
+unfoldable pub subset : ℕ → ℕ → Bool
+subset a b = all width (λ t. implies (has a t) (has b t))
+
+-- the lowest member, and the width where there is none
+unfoldable pub lowest : ℕ → ℕ
+lowest s = first width (has s)
+
+-- how many members there are
+unfoldable pub size : ℕ → ℕ
+size s = count width (has s)

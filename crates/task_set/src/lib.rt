@@ -1,0 +1,52 @@
+// Sets of task numbers 0 to 63, as the bits of a word: bit t for task t.
+// Every function takes every number: one of 64 or more is in no set.
+ghost use mathlib.Core.Path.{_≡_};
+ghost use Rattle.task_set.specs.Sets.{below, has, insert, lowest, size, subset};
+
+pub fn contains(s: u64, t: usize) -> bool
+    ensures { λ r. ⌜ r ≡ has s t ⌝ }
+{
+    if 64 <= t {
+        return false;
+    }
+    (s >> t) & 1 == 1
+}
+
+pub fn inserted(s: u64, t: usize) -> u64
+    ensures { λ r. ⌜ r ≡ insert s t ⌝ }
+{
+    if 64 <= t {
+        return s;
+    }
+    s | (1u64 << t)
+}
+
+// The members of s below n.
+pub fn members_below(s: u64, n: usize) -> u64
+    ensures { λ r. ⌜ r ≡ below s n ⌝ }
+{
+    if 64 <= n {
+        return s;
+    }
+    s & ((1u64 << n) - 1)
+}
+
+pub fn is_subset(a: u64, b: u64) -> bool
+    ensures { λ r. ⌜ r ≡ subset a b ⌝ }
+{
+    a & b == a
+}
+
+// The lowest member, and 64 for the empty set.
+pub fn lowest_member(s: u64) -> u32
+    ensures { λ r. ⌜ r ≡ lowest s ⌝ }
+{
+    u64::trailing_zeros(s)
+}
+
+// How many members s has.
+pub fn member_count(s: u64) -> u32
+    ensures { λ r. ⌜ r ≡ size s ⌝ }
+{
+    u64::count_ones(s)
+}
