@@ -1,9 +1,9 @@
 -- The laws of `all`, `any` and `count`. Assumes nothing.
 use mathlib.Core.Path.{_≡_, refl, sym, ap, ap₂, _∙_, subst}
-use mathlib.Core.Bool.{Bool, true, false, cond, _&&_, _||_, not, or-true, or-false}
+use mathlib.Core.Bool.{Bool, true, false, cond, _&&_, _||_, not, or-false}
 use mathlib.Core.Logic.{_⊎_, inl, inr}
 use Prim.Native.Nat.{ℕ, zero, suc, _+_, _≤_, _<_, zero-le}
-use native.Mathlib.Nat.{le-of-suc-le-suc, not-suc-le-zero, le-step, le-refl, lt-suc-self, eq-or-lt-of-le}
+use native.Mathlib.Nat.{le-of-suc-le-suc, not-suc-le-zero, le-step, lt-suc-self, eq-or-lt-of-le}
 use native.Mathlib.Numerals.{add-one}
 use native.Mathlib.Omega.{arith}
 use borrow.Author.Tests.{eq-eqb, ne-eqb}
@@ -61,6 +61,21 @@ any-elim (suc n) p e = go (or-cases (any n p) (p n) e) (any-elim n p)
     go : (any n p ≡ true) ⊎ (p n ≡ true) → (any n p ≡ true → (i : ℕ) × (i < n) × (p i ≡ true)) → (i : ℕ) × (i < suc n) × (p i ≡ true)
     go (inl f) ih = let r = ih f in (r .0, le-step (r .1), r .2)
     go (inr f) ih = (n, lt-suc-self n, f)
+
+pub any-cong : (n : ℕ) (p q : ℕ → Bool) → ((i : ℕ) → i < n → p i ≡ q i) → any n p ≡ any n q
+unfolding any
+any-cong zero p q h = refl
+any-cong (suc n) p q h = ap₂ _||_ (any-cong n p q (λ i l. h i (le-step l))) (h n (lt-suc-self n))
+
+-- not every one passes: some one does not
+pub not-all : (n : ℕ) (p : ℕ → Bool) → not (all n p) ≡ any n (λ i. not (p i))
+unfolding all any
+not-all zero p = refl
+not-all (suc n) p = go (all n p) (p n) ∙ ap (λ (b : Bool). b || not (p n)) (not-all n p)
+  where
+    go : (a b : Bool) → not (a && b) ≡ not a || not b
+    go true b = refl
+    go false b = refl
 
 -- a loop's next step
 pub any-next : (n : ℕ) (p : ℕ → Bool) → any (n + 1) p ≡ any n p || p n

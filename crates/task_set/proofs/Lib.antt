@@ -2,5 +2,6 @@
 pub mod Truth
 pub mod Bounded
 pub mod Search
+pub mod Upto
 pub mod Cover
 pub mod Members

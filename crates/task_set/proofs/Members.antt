@@ -1,7 +1,6 @@
 -- The laws of membership, each once over the width. Assumes nothing.
 use mathlib.Core.Path.{_≡_, refl, sym, ap, ap₂, _∙_, subst}
-use mathlib.Core.Bool.{Bool, true, false, cond, _&&_, _||_, not, and-true, and-false, or-false}
-use mathlib.Core.Logic.{_⊎_, inl, inr}
+use mathlib.Core.Bool.{Bool, true, false, cond, _&&_, _||_, and-true, and-false}
 use Prim.Native.Nat.{ℕ, zero, suc, _+_, _-_, _*_, _/_, _%_, _^_, _≤_, _<_, suc-le-suc, min, max}
 use native.Mathlib.Nat.{le-of-suc-le-suc, not-suc-le-zero, zero-lt-suc, le-refl, mod-lt, div-one, div-eq-of-lt, zero-div, div-add-mod', lt-of-lt-of-le, lt-of-le-of-lt, div-lt-iff-lt-mul, pow-suc, one-mul, mod-le}
 use native.Mathlib.Numerals.{one-add, add-one}
@@ -11,9 +10,9 @@ use lib.Bits.{bitAnd, bitOr, and-step, or-step, and-le-l, shifted-even, shifted-
 use lib.Count.{ones, ones-step, trailingZeros, under}
 use lib.Dec.{eqb, ltb, eqb·zero-suc, eqb·suc-suc, lit<}
 use lib.Pow.{pow-pos, pow-mono, shl-exact, shr-shr, field, mod-mod-pow}
-use borrow.Author.Tests.{eq-eqb, eqb-true, ne-eqb, lt-ltb, le-ltb, ltb-true, ltb-false}
+use borrow.Author.Tests.{eq-eqb, eqb-true, ne-eqb, lt-ltb, ltb-true, ltb-false}
 use Rattle.task_set.specs.Bounded.{all, count, first, implies}
-use Rattle.task_set.specs.Sets.{width, has, insert, below, subset, lowest, size}
+use Rattle.task_set.specs.Sets.{width, has, insert, below, lowest}
 use Rattle.task_set.proofs.Truth.{clash, by-test, same}
 use Rattle.task_set.proofs.Bounded.{all-intro, all-elim, count-cong, count-front}
 use Rattle.task_set.proofs.Search.{First, first-is, first-cong}

@@ -1,7 +1,8 @@
 -- Facts of truth values. Assumes nothing.
 use mathlib.Core.Path.{_≡_, refl, sym, ap, _∙_}
-use mathlib.Core.Bool.{Bool, true, false, _&&_, _||_, not, true≢false}
+use mathlib.Core.Bool.{Bool, true, false, _&&_, _||_, true≢false}
 use mathlib.Core.Logic.{_⊎_, inl, inr}
+use Rattle.task_set.specs.Bounded.{implies}
 
 -- nothing is both true and false
 pub clash : {b : Bool} → b ≡ true → b ≡ false → ⊥
@@ -54,3 +55,6 @@ or-left-off false b e = refl
 pub or-right-off : (a b : Bool) → a || b ≡ false → b ≡ false
 or-right-off true b e = absurd (clash refl e)
 or-right-off false b e = e
+
+pub implies-elim : (a b : Bool) → implies a b ≡ true → a ≡ true → b ≡ true
+implies-elim a b e f = rw f at e

@@ -3,10 +3,13 @@
 ghost use mathlib.Core.Path.{_≡_};
 ghost use Rattle.task_set.specs.Sets.{below, has, insert, lowest, size, subset};
 
+// How many numbers can be members.
+pub const WIDTH: usize = 64;
+
 pub fn contains(s: u64, t: usize) -> bool
     ensures { λ r. ⌜ r ≡ has s t ⌝ }
 {
-    if 64 <= t {
+    if WIDTH <= t {
         return false;
     }
     (s >> t) & 1 == 1
@@ -15,7 +18,7 @@ pub fn contains(s: u64, t: usize) -> bool
 pub fn inserted(s: u64, t: usize) -> u64
     ensures { λ r. ⌜ r ≡ insert s t ⌝ }
 {
-    if 64 <= t {
+    if WIDTH <= t {
         return s;
     }
     s | (1u64 << t)
@@ -25,7 +28,7 @@ pub fn inserted(s: u64, t: usize) -> u64
 pub fn members_below(s: u64, n: usize) -> u64
     ensures { λ r. ⌜ r ≡ below s n ⌝ }
 {
-    if 64 <= n {
+    if WIDTH <= n {
         return s;
     }
     s & ((1u64 << n) - 1)

@@ -1,0 +1,140 @@
+-- What a plan that breaks no rule gives. Assumes nothing.
+use mathlib.Core.Path.{_≡_, refl}
+use mathlib.Core.Bool.{Bool, true, false, _&&_, _||_, not}
+use mathlib.Core.Logic.{_⊎_, inl, inr}
+use Prim.Native.Nat.{ℕ, _≤_, _<_}
+use native.Mathlib.Nat.{lt-of-lt-of-le}
+use native.Mathlib.Omega.{arith}
+use borrow.Author.Tests.{eqb-true, leb-true, ltb-true, lt-ltb, not-true}
+use lib.Dec.{eqb, leb, ltb}
+use lib.ListN.{getD}
+use Rattle.task_set.specs.Bounded.{all, implies}
+use Rattle.task_set.specs.Sets.{width, has}
+use Rattle.task_set.proofs.Truth.{and-left, and-right, or-cases, implies-elim}
+use Rattle.task_set.proofs.Bounded.{all-elim}
+use Rattle.plan.specs.declared.Plan.{Plan}
+use Rattle.plan.specs.Rules.{mostTypes, mostUnits, mostTasks, longestTime, between, timeOf, predecessorsOf, usable, countsOk, unitsOk, pairOk, pairsOk, someTypeOk, predecessorsOk, taskOk, planOk}
+
+-- a rule for present things and one for absent ones, at a present thing
+at-present : (here a b : Bool) → (here && a) || (not here && b) ≡ true → here ≡ true → a ≡ true
+at-present here a b e f = or-false-right a (rw f at e)
+  where
+    or-false-right : (x : Bool) → x || false ≡ true → x ≡ true
+    or-false-right true g = refl
+    or-false-right false g = g
+
+between-low : (a x b : ℕ) → between a x b ≡ true → a ≤ x
+between-low a x b e = leb-true a x (and-left (leb a x) (leb x b) e)
+
+between-high : (a x b : ℕ) → between a x b ≡ true → x ≤ b
+between-high a x b e = leb-true x b (and-right (leb a x) (leb x b) e)
+
+-- the best and worst time of a task on a type that it can use
+pub record Times (best worst : ℕ) : Type 0 where
+  pub some : 1 ≤ best
+  pub ordered : best ≤ worst
+  pub short : worst ≤ longestTime
+
+pair-times : (here : Bool) (best worst : ℕ) → pairOk here best worst ≡ true → ltb 0 worst ≡ true → Times best worst
+unfolding pairOk
+pair-times here best worst e f = go (or-cases (eqb best 0 && eqb worst 0) (here && rest) e)
+  where
+    rest : Bool
+    rest = leb 1 best && (leb best worst && leb worst longestTime)
+
+    go : (eqb best 0 && eqb worst 0 ≡ true) ⊎ (here && rest ≡ true) → Times best worst
+    go (inl g) = absurd (omega (arith, ltb-true 0 worst f, eqb-true worst 0 (and-right (eqb best 0) (eqb worst 0) g)))
+    go (inr g) =
+        let r = and-right here rest g in
+        let q = and-right (leb 1 best) (leb best worst && leb worst longestTime) r in
+        record {
+          some = leb-true 1 best (and-left (leb 1 best) (leb best worst && leb worst longestTime) r);
+          ordered = leb-true best worst (and-left (leb best worst) (leb worst longestTime) q);
+          short = leb-true worst longestTime (and-right (leb best worst) (leb worst longestTime) q);
+        }
+
+module _ (p : Plan) (e : planOk p ≡ true) where
+  abbrev units-rule : Bool
+  units-rule = all mostTypes (unitsOk (p .types) (p .units))
+
+  abbrev tasks-rule : Bool
+  tasks-rule = all mostTasks (taskOk (p .types) (p .tasks) (p .bcet) (p .wcet) (p .predecessors))
+
+  counts : countsOk (p .types) (p .tasks) ≡ true
+  unfolding planOk
+  counts = and-left (countsOk (p .types) (p .tasks)) (units-rule && tasks-rule) e
+
+  rest : units-rule && tasks-rule ≡ true
+  unfolding planOk
+  rest = and-right (countsOk (p .types) (p .tasks)) (units-rule && tasks-rule) e
+
+  pub some-types : 1 ≤ p .types
+  unfolding countsOk
+  some-types = between-low 1 (p .types) mostTypes (and-left (between 1 (p .types) mostTypes) _ counts)
+
+  pub few-types : p .types ≤ mostTypes
+  unfolding countsOk
+  few-types = between-high 1 (p .types) mostTypes (and-left (between 1 (p .types) mostTypes) _ counts)
+
+  pub some-tasks : 1 ≤ p .tasks
+  unfolding countsOk
+  some-tasks = between-low 1 (p .tasks) mostTasks (and-right (between 1 (p .types) mostTypes) _ counts)
+
+  pub few-tasks : p .tasks ≤ mostTasks
+  unfolding countsOk
+  few-tasks = between-high 1 (p .tasks) mostTasks (and-right (between 1 (p .types) mostTypes) _ counts)
+
+  units-between : (k : ℕ) → k < p .types → between 1 (getD (p .units) k 0) mostUnits ≡ true
+  unfolding unitsOk
+  units-between k l =
+      at-present (ltb k (p .types)) (between 1 (getD (p .units) k 0) mostUnits) _
+      (all-elim mostTypes (unitsOk (p .types) (p .units)) (and-left units-rule tasks-rule rest) k (lt-of-lt-of-le l few-types)) (lt-ltb k (p .types) l)
+
+  pub some-units : (k : ℕ) → k < p .types → 1 ≤ getD (p .units) k 0
+  some-units k l = between-low 1 (getD (p .units) k 0) mostUnits (units-between k l)
+
+  pub few-units : (k : ℕ) → k < p .types → getD (p .units) k 0 ≤ mostUnits
+  few-units k l = between-high 1 (getD (p .units) k 0) mostUnits (units-between k l)
+
+  module _ (t : ℕ) (present : t < p .tasks) where
+    abbrev pairs-rule : Bool
+    pairs-rule = pairsOk (p .types) (p .tasks) (p .bcet) (p .wcet) t
+
+    abbrev type-rule : Bool
+    type-rule = someTypeOk (p .tasks) (p .wcet) t
+
+    abbrev predecessors-rule : Bool
+    predecessors-rule = predecessorsOk (p .tasks) (p .predecessors) t
+
+    task-ok : pairs-rule && (type-rule && predecessors-rule) ≡ true
+    unfolding taskOk
+    task-ok =
+        all-elim mostTasks (taskOk (p .types) (p .tasks) (p .bcet) (p .wcet) (p .predecessors)) (and-right units-rule tasks-rule rest) t
+        (lt-of-lt-of-le present few-tasks)
+
+    pub usable-times : (k : ℕ) → k < p .types → usable (p .wcet) t k ≡ true → Times (timeOf (p .bcet) t k) (timeOf (p .wcet) t k)
+    unfolding pairsOk usable
+    usable-times k m u = pair-times (ltb t (p .tasks) && ltb k (p .types)) (timeOf (p .bcet) t k) (timeOf (p .wcet) t k) (all-elim mostTypes pair-rule (and-left pairs-rule (type-rule && predecessors-rule) task-ok) k (lt-of-lt-of-le m few-types)) u
+      where
+        pair-rule : ℕ → Bool
+        pair-rule k = pairOk (ltb t (p .tasks) && ltb k (p .types)) (timeOf (p .bcet) t k) (timeOf (p .wcet) t k)
+
+    abbrev predecessors : ℕ
+    predecessors = predecessorsOf (p .predecessors) t
+
+    abbrev known : ℕ → Bool
+    known u = implies (has predecessors u) (ltb u (p .tasks))
+
+    predecessors-ok : not (has predecessors t) && all width known ≡ true
+    unfolding predecessorsOk
+    predecessors-ok =
+        at-present (ltb t (p .tasks)) (not (has predecessors t) && all width known) (eqb predecessors 0)
+        (and-right type-rule predecessors-rule (and-right pairs-rule (type-rule && predecessors-rule) task-ok)) (lt-ltb t (p .tasks) present)
+
+    pub not-itself : has predecessors t ≡ false
+    not-itself = not-true (has predecessors t) (and-left (not (has predecessors t)) (all width known) predecessors-ok)
+
+    pub known-predecessor : (u : ℕ) → u < width → has predecessors u ≡ true → u < p .tasks
+    known-predecessor u m h =
+        ltb-true u (p .tasks)
+        (implies-elim (has predecessors u) (ltb u (p .tasks)) (all-elim width known (and-right (not (has predecessors t)) (all width known) predecessors-ok) u m) h)

@@ -1,0 +1,8 @@
+-- The laws that belong to no one function.
+pub mod Placing
+pub mod Judging
+pub mod Kept
+pub mod Arranged
+pub mod Verdicts
+pub mod Accepted
+pub mod Examples

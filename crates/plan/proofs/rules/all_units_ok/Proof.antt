@@ -1,0 +1,41 @@
+-- `plan::rules::all_units_ok` meets its contract: `ok` tells of the types passed. Assumes nothing.
+use mathlib.Core.Path.{refl, sym, ap₂, _∙_}
+use mathlib.Core.Bool.{_&&_}
+use Prim.Native.Nat.{ℕ, _-_}
+use borrow.Author.Needs.{needs}
+use Rattle.plan.specs.Rules.{mostTypes, unitsOk}
+use Rattle.task_set.specs.Bounded.{all}
+use Rattle.task_set.proofs.Bounded.{all-next}
+use Rattle.task_set.proofs.Upto.{Upto, upto-none, upto-more, upto-end}
+use Rattle.plan.proofs.rules.all_units_ok.Statement.{statement}
+use Rattle.plan.proofs.rules.all_units_ok.Tie as tie
+
+abbrev Inv-loop : tie.InvT-loop
+Inv-loop types units ok₀ k₀ ok k = Upto (λ (n : ℕ). all n (unitsOk types units)) mostTypes k ok
+
+abbrev μ-loop : tie.MeasureT-loop
+μ-loop types units ok₀ k₀ ok k = mostTypes - k
+
+loop-holds : tie.Need-loop-holds Inv-loop μ-loop
+unfolding all
+loop-holds c = upto-none refl
+
+units-ok-requires : tie.Need-units-ok-requires Inv-loop μ-loop
+units-ok-requires c κs = search needs
+
+add-k : tie.Need-add-k Inv-loop μ-loop
+add-k c = search needs
+
+loop-less : tie.Need-loop-less Inv-loop μ-loop
+loop-less c = search needs
+
+loop-again : tie.Need-loop-again Inv-loop μ-loop
+loop-again c = upto-more (c .before .loop-test .taken) (ap₂ _&&_ (c .before .before .loop .inv .is) (c .units-ok .ensures) ∙ sym (all-next _ _))
+
+returns : tie.Need-returns Inv-loop μ-loop
+returns c = upto-end (c .before .loop .inv) (c .loop-test .left)
+
+pub all-units-ok-spec : {M : Type 1} → statement M
+all-units-ok-spec =
+    tie.close
+    (tie.spec Inv-loop μ-loop loop-holds units-ok-requires add-k loop-less loop-again returns)

@@ -1,0 +1,91 @@
+// Plans and constraints, and the check that takes or refuses them (document 01, "The plan").
+ghost use mathlib.Core.Path.{_≡_};
+ghost use Rattle.plan.specs.Refusals.{verdict};
+ghost use Rattle.plan.specs.Rules.{predecessorsOf, timeOf, usable};
+
+mod order;
+mod rules;
+
+pub use order::check_parts;
+
+pub const MOST_TYPES: usize = 8;
+
+pub const MOST_UNITS: u32 = 8;
+
+pub const MOST_TASKS: usize = 64;
+
+pub const MOST_PAIRS: usize = MOST_TASKS * MOST_TYPES;
+
+pub const LONGEST_TIME: u32 = 65535;
+
+// Times are kept task by task: time_of alone knows where one lies.
+pub struct Plan {
+    pub types: usize,
+    pub units: [u32; MOST_TYPES],
+    pub tasks: usize,
+    pub bcet: [u32; MOST_PAIRS],
+    pub wcet: [u32; MOST_PAIRS],
+    pub predecessors: [u64; MOST_TASKS],
+}
+
+// The execution order and the chosen type of each task: the first `len` entries of two arrays.
+pub struct Constraint {
+    pub len: usize,
+    pub order: [usize; MOST_TASKS],
+    pub chosen: [usize; MOST_TASKS],
+}
+
+// The number and the place of a refusal; 0 and 0 where nothing is refused.
+pub struct Verdict {
+    pub number: u32,
+    pub place: usize,
+}
+
+// The time of task t on type k, from the best or the worst times; 0 past the last task or type.
+pub fn time_of(times: &[u32; MOST_PAIRS], t: usize, k: usize) -> u32
+    ensures { λ r. ⌜ r ≡ timeOf (now (times .entry)) t k ⌝ }
+{
+    if MOST_TASKS <= t {
+        return 0;
+    }
+    if MOST_TYPES <= k {
+        return 0;
+    }
+    times[t * MOST_TYPES + k]
+}
+
+pub fn is_usable(wcet: &[u32; MOST_PAIRS], t: usize, k: usize) -> bool
+    ensures { λ r. ⌜ r ≡ usable (now (wcet .entry)) t k ⌝ }
+{
+    0 < time_of(wcet, t, k)
+}
+
+// The predecessors of task t; none past the last task.
+pub fn predecessors_of(predecessors: &[u64; MOST_TASKS], t: usize) -> u64
+    ensures { λ r. ⌜ r ≡ predecessorsOf (now (predecessors .entry)) t ⌝ }
+{
+    if MOST_TASKS <= t {
+        return 0;
+    }
+    predecessors[t]
+}
+
+// What the check finds: 8 to 11 with their places, or that it takes both.
+pub fn check(p: Plan, c: Constraint) -> Verdict
+    ensures { λ r. ⌜ r ≡ verdict p c ⌝ }
+{
+    let types = p.types;
+    let tasks = p.tasks;
+    let len = c.len;
+    check_parts(
+        types,
+        &p.units,
+        tasks,
+        &p.bcet,
+        &p.wcet,
+        &p.predecessors,
+        len,
+        &c.order,
+        &c.chosen,
+    )
+}
