@@ -8,14 +8,10 @@ use Rattle.task_set.specs.Sets.{has}
 use Rattle.plan.specs.declared.Plan.{Plan}
 use Rattle.plan.specs.declared.Constraint.{Constraint}
 use Rattle.plan.specs.Rules.{pairIndex, timeOf, predecessorsOf, usable, countsOk, unitsOk, pairOk, pairsOk, someTypeOk, predecessorsOk, taskOk, planOk}
-use Rattle.plan.specs.Refusals.{misplaced, unusable, early, refused, accepted, unlessAt, verdict}
+use Rattle.plan.specs.Refusals.{noPlan, noConstraint, misplaced, unusable, early, refused, accepted, unlessAt, verdict}
 
 zeros : ℕ → List ℕ
 zeros n = replicate n 0
-
-noPlan : Plan
-unfolding zeros
-noPlan = record { types = 0; units = zeros 8; tasks = 0; bcet = zeros 512; wcet = zeros 512; predecessors = zeros 64 }
 
 -- the times of plan A's T lines, in their order
 times : ℕ → ℕ → ℕ → ℕ → ℕ → ℕ → List ℕ
@@ -35,19 +31,19 @@ planA =
       predecessors = set (set (set (zeros 64) 2 1) 3 2) 4 4;
     }
 
--- the first entries of an order, and the chosen types
-entries : ℕ → List ℕ → List ℕ → Constraint
+-- five tasks in this order, each with its chosen type
+entries : List ℕ → List ℕ → Constraint
 unfolding zeros
-entries n order chosen = record { len = n; order = order ++ zeros 59; chosen = chosen ++ zeros 59 }
+entries order chosen = record { len = 5; order = order ++ zeros 59; chosen = chosen ++ zeros 59 }
 
 -- nothing at all; plan A as it stands; P6, P7, P8
 worked :
-    verdict noPlan (entries 0 (zeros 5) (zeros 5))
-    ∷ verdict planA (entries 5 (0 ∷ 1 ∷ 2 ∷ 3 ∷ 4 ∷ []) (0 ∷ 0 ∷ 1 ∷ 1 ∷ 0 ∷ []))
-    ∷ verdict planA (entries 5 (2 ∷ 0 ∷ 1 ∷ 3 ∷ 4 ∷ []) (1 ∷ 0 ∷ 0 ∷ 1 ∷ 0 ∷ []))
-    ∷ verdict planA (entries 5 (0 ∷ 1 ∷ 2 ∷ 3 ∷ 4 ∷ []) (0 ∷ 1 ∷ 1 ∷ 1 ∷ 0 ∷ []))
-    ∷ verdict planA (entries 5 (0 ∷ 1 ∷ 2 ∷ 3 ∷ 3 ∷ []) (0 ∷ 0 ∷ 1 ∷ 1 ∷ 1 ∷ []))
+    verdict noPlan noConstraint
+    ∷ verdict planA (entries (0 ∷ 1 ∷ 2 ∷ 3 ∷ 4 ∷ []) (0 ∷ 0 ∷ 1 ∷ 1 ∷ 0 ∷ []))
+    ∷ verdict planA (entries (2 ∷ 0 ∷ 1 ∷ 3 ∷ 4 ∷ []) (1 ∷ 0 ∷ 0 ∷ 1 ∷ 0 ∷ []))
+    ∷ verdict planA (entries (0 ∷ 1 ∷ 2 ∷ 3 ∷ 4 ∷ []) (0 ∷ 1 ∷ 1 ∷ 1 ∷ 0 ∷ []))
+    ∷ verdict planA (entries (0 ∷ 1 ∷ 2 ∷ 3 ∷ 3 ∷ []) (0 ∷ 0 ∷ 1 ∷ 1 ∷ 1 ∷ []))
     ∷ []
     ≡ refused 8 0 ∷ accepted ∷ refused 11 0 ∷ refused 10 1 ∷ refused 9 4 ∷ []
-unfolding zeros noPlan times planA entries verdict planOk countsOk unitsOk taskOk pairsOk pairOk someTypeOk predecessorsOk timeOf predecessorsOf usable misplaced unusable early unlessAt has all any first
+unfolding zeros times planA entries verdict planOk countsOk unitsOk taskOk pairsOk pairOk someTypeOk predecessorsOk timeOf predecessorsOf usable misplaced unusable early unlessAt has all any first
 worked = refl

@@ -10,7 +10,8 @@ use Rattle.task_set.proofs.Members.{below-mask}
 use Rattle.plan.specs.Rules.{mostTypes, predecessorsOf, usable, pairsOk, someTypeOk, predecessorsOk, taskOk}
 use Rattle.plan.specs.Refusals.{entryAt, unusable}
 
-pub unusable-by : (types : ℕ) (wcet order chosen : List ℕ) (i : ℕ) {b : Bool} → b ≡ usable wcet (entryAt order i) (entryAt chosen i) → leb types (entryAt chosen i) || not b ≡ unusable types wcet order chosen i
+pub unusable-by : (types : ℕ) (wcet order chosen : List ℕ) (i : ℕ) {b : Bool} → b ≡ usable wcet (entryAt order i) (entryAt chosen i)
+    → leb types (entryAt chosen i) || not b ≡ unusable types wcet order chosen i
 unfolding unusable
 unusable-by types wcet order chosen i e = ap (λ (b : Bool). leb types (entryAt chosen i) || not b) e
 
@@ -19,7 +20,8 @@ pub predecessors-ok-by : (tasks t : ℕ) (predecessors : List ℕ) {s m : ℕ} {
 unfolding predecessorsOk
 predecessors-ok-by tasks t predecessors {s} l e f g = rw (f, g, below-mask width s tasks l, e)
 
-pub task-ok-by : (types tasks : ℕ) (bcet wcet predecessors : List ℕ) (t : ℕ) {a b d : Bool} → a ≡ any mostTypes (usable wcet t) → b ≡ pairsOk types tasks bcet wcet t → d ≡ predecessorsOk tasks predecessors t
+pub task-ok-by : (types tasks : ℕ) (bcet wcet predecessors : List ℕ) (t : ℕ) {a b d : Bool} → a ≡ any mostTypes (usable wcet t)
+    → b ≡ pairsOk types tasks bcet wcet t → d ≡ predecessorsOk tasks predecessors t
     → b && ((not (ltb t tasks) || a) && d) ≡ taskOk types tasks bcet wcet predecessors t
 unfolding taskOk someTypeOk
 task-ok-by types tasks bcet wcet predecessors t e f g = rw (e, f, g)

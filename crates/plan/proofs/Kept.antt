@@ -114,7 +114,9 @@ module _ (p : Plan) (e : planOk p ≡ true) where
 
     pub usable-times : (k : ℕ) → k < p .types → usable (p .wcet) t k ≡ true → Times (timeOf (p .bcet) t k) (timeOf (p .wcet) t k)
     unfolding pairsOk usable
-    usable-times k m u = pair-times (ltb t (p .tasks) && ltb k (p .types)) (timeOf (p .bcet) t k) (timeOf (p .wcet) t k) (all-elim mostTypes pair-rule (and-left pairs-rule (type-rule && predecessors-rule) task-ok) k (lt-of-lt-of-le m few-types)) u
+    usable-times k m u =
+        pair-times (ltb t (p .tasks) && ltb k (p .types)) (timeOf (p .bcet) t k) (timeOf (p .wcet) t k)
+        (all-elim mostTypes pair-rule (and-left pairs-rule (type-rule && predecessors-rule) task-ok) k (lt-of-lt-of-le m few-types)) u
       where
         pair-rule : ℕ → Bool
         pair-rule k = pairOk (ltb t (p .tasks) && ltb k (p .types)) (timeOf (p .bcet) t k) (timeOf (p .wcet) t k)

@@ -3,13 +3,13 @@ use mathlib.Core.Bool.{Bool, cond, _&&_, _||_, not}
 use mathlib.Core.List.{List}
 use Prim.Native.Nat.{ℕ}
 use lib.Dec.{eqb, leb, ltb}
-use lib.ListN.{getD}
+use lib.ListN.{getD, replicate}
 use Rattle.task_set.specs.Bounded.{any, first}
 use Rattle.task_set.specs.Sets.{has}
 use Rattle.plan.specs.declared.Plan.{Plan}
 use Rattle.plan.specs.declared.Constraint.{Constraint}
 use Rattle.plan.specs.declared.Verdict.{Verdict}
-use Rattle.plan.specs.Rules.{predecessorsOf, usable, planOk}
+use Rattle.plan.specs.Rules.{mostTypes, mostTasks, mostPairs, predecessorsOf, usable, planOk}
 
 -- the task or the type at position i of the order
 abbrev pub entryAt : List ℕ → ℕ → ℕ
@@ -35,6 +35,21 @@ refused number place = record { number = number; place = place }
 
 abbrev pub accepted : Verdict
 accepted = refused 0 0
+
+-- a plan and a constraint that are handed over in parts
+abbrev pub planOf : ℕ → List ℕ → ℕ → List ℕ → List ℕ → List ℕ → Plan
+planOf types units tasks bcet wcet predecessors =
+    record { types = types; units = units; tasks = tasks; bcet = bcet; wcet = wcet; predecessors = predecessors }
+
+abbrev pub constraintOf : ℕ → List ℕ → List ℕ → Constraint
+constraintOf len order chosen = record { len = len; order = order; chosen = chosen }
+
+-- "the rest of a refused answer is zeros"
+abbrev pub noPlan : Plan
+noPlan = planOf 0 (replicate mostTypes 0) 0 (replicate mostPairs 0) (replicate mostPairs 0) (replicate mostTasks 0)
+
+abbrev pub noConstraint : Constraint
+noConstraint = constraintOf 0 (replicate mostTasks 0) (replicate mostTasks 0)
 
 -- refused at the first of n positions that is at fault, otherwise what follows
 unfoldable pub unlessAt : ℕ → ℕ → (ℕ → Bool) → Verdict → Verdict

@@ -19,6 +19,9 @@ mostUnits = 8
 abbrev pub mostTasks : ℕ
 mostTasks = 64
 
+abbrev pub mostPairs : ℕ
+mostPairs = mostTasks * mostTypes
+
 abbrev pub longestTime : ℕ
 longestTime = 65535
 

@@ -1,6 +1,6 @@
 // Plans and constraints, and the check that takes or refuses them (document 01, "The plan").
 ghost use mathlib.Core.Path.{_≡_};
-ghost use Rattle.plan.specs.Refusals.{verdict};
+ghost use Rattle.plan.specs.Refusals.{noConstraint, noPlan, verdict};
 ghost use Rattle.plan.specs.Rules.{predecessorsOf, timeOf, usable};
 
 mod order;
@@ -39,6 +39,29 @@ pub struct Constraint {
 pub struct Verdict {
     pub number: u32,
     pub place: usize,
+}
+
+pub fn no_plan() -> Plan
+    ensures { λ r. ⌜ r ≡ noPlan ⌝ }
+{
+    Plan {
+        types: 0,
+        units: [0; MOST_TYPES],
+        tasks: 0,
+        bcet: [0; MOST_PAIRS],
+        wcet: [0; MOST_PAIRS],
+        predecessors: [0; MOST_TASKS],
+    }
+}
+
+pub fn no_constraint() -> Constraint
+    ensures { λ r. ⌜ r ≡ noConstraint ⌝ }
+{
+    Constraint {
+        len: 0,
+        order: [0; MOST_TASKS],
+        chosen: [0; MOST_TASKS],
+    }
 }
 
 // The time of task t on type k, from the best or the worst times; 0 past the last task or type.

@@ -3,7 +3,7 @@ ghost use mathlib.Core.Path.{_≡_};
 ghost use Prim.Native.Nat.{_≤_};
 ghost use Rattle.task_set.specs.Bounded.{first};
 ghost use Rattle.plan.specs.Rules.{mostTasks};
-ghost use Rattle.plan.specs.Refusals.{misplaced, unusable, verdict};
+ghost use Rattle.plan.specs.Refusals.{constraintOf, misplaced, planOf, unusable, verdict};
 ghost use Rattle.plan.specs.Steps.{unmet};
 use crate::MOST_PAIRS;
 use crate::MOST_TASKS;
@@ -94,7 +94,9 @@ pub fn check_parts<'a>(
     order: &'a [usize; MOST_TASKS],
     chosen: &'a [usize; MOST_TASKS],
 ) -> Verdict
-    ensures { λ r. ⌜ r ≡ verdict (record { types = types; units = now (units .entry); tasks = tasks; bcet = now (bcet .entry); wcet = now (wcet .entry); predecessors = now (predecessors .entry) }) (record { len = len; order = now (order .entry); chosen = now (chosen .entry) }) ⌝ }
+    ensures { λ r. ⌜ r ≡ verdict
+        (planOf types (now (units .entry)) tasks (now (bcet .entry)) (now (wcet .entry)) (now (predecessors .entry)))
+        (constraintOf len (now (order .entry)) (now (chosen .entry))) ⌝ }
 {
     if !plan_ok(types, units, tasks, bcet, wcet, predecessors) {
         return refused(8, 0);

@@ -2,6 +2,7 @@
 ghost use mathlib.Core.Path.{_≡_};
 ghost use Prim.Native.Nat.{_<_};
 ghost use Rattle.task_set.specs.Bounded.{all, any};
+ghost use Rattle.plan.specs.Refusals.{planOf};
 ghost use Rattle.plan.specs.Rules.{countsOk, mostTasks, mostTypes, pairOk, pairsOk, planOk, predecessorsOk, someTypeOk, taskOk, unitsOk, usable};
 use crate::LONGEST_TIME;
 use crate::MOST_PAIRS;
@@ -129,7 +130,8 @@ pub fn plan_ok<'a>(
     wcet: &'a [u32; MOST_PAIRS],
     predecessors: &'a [u64; MOST_TASKS],
 ) -> bool
-    ensures { λ r. ⌜ r ≡ planOk (record { types = types; units = now (units .entry); tasks = tasks; bcet = now (bcet .entry); wcet = now (wcet .entry); predecessors = now (predecessors .entry) }) ⌝ }
+    ensures { λ r. ⌜ r ≡ planOk
+        (planOf types (now (units .entry)) tasks (now (bcet .entry)) (now (wcet .entry)) (now (predecessors .entry))) ⌝ }
 {
     counts_ok(types, tasks)
         & (all_units_ok(types, units) & all_tasks_ok(types, tasks, bcet, wcet, predecessors))

@@ -5,6 +5,7 @@ use Prim.Native.Nat.{_≤_}
 use native.Mathlib.Omega.{arith}
 use borrow.Author.Needs.{needs}
 use borrow.Author.Tests.{not-true, not-false}
+use Rattle.plan.specs.Refusals.{planOf}
 use Rattle.plan.specs.Rules.{planOk, mostTasks}
 use Rattle.plan.proofs.Kept.{few-tasks}
 use Rattle.plan.proofs.Verdicts.{says-8, says-9-length, says-9, says-10, says-11, accepts}
@@ -12,20 +13,15 @@ use Rattle.plan.specs.declared.Plan.{Plan}
 use Rattle.plan.proofs.order.check_parts.Statement.{statement}
 use Rattle.plan.proofs.order.check_parts.Tie as tie
 
+-- the plan that is handed over in parts
 abbrev handed : tie.Start → Plan
 handed c =
-    record {
-      types = c .args .types;
-      units = c .args .units .now;
-      tasks = c .args .tasks;
-      bcet = c .args .bcet .now;
-      wcet = c .args .wcet .now;
-      predecessors = c .args .predecessors .now;
-    }
+    planOf (c .args .types) (c .args .units .now) (c .args .tasks) (c .args .bcet .now) (c .args .wcet .now) (c .args .predecessors .now)
 
 kept : (c : tie.Else1) → planOk (handed (c .before .before)) ≡ true
 kept c = sym (c .before .plan-ok .ensures) ∙ not-false _ (c .if1 .left)
 
+-- the length is the number of tasks, of which there are few
 short : (c : tie.Else2) → c .before .before .before .args .len ≤ mostTasks
 short c = omega (arith, few-tasks _ (kept (c .before)))
 
@@ -51,7 +47,10 @@ refused-requires-3 : tie.Need-refused-requires-3
 refused-requires-3 c κs = search needs
 
 returns-3 : tie.Need-returns-3
-returns-3 c = c .refused3 .ensures ∙ sym (says-9 _ _ (kept (c .before .before .before .before)) (c .before .before .before .if2 .left) (c .before .before .first-misplaced .ensures) (c .before .if3 .taken))
+returns-3 c =
+    c .refused3 .ensures
+    ∙ sym (says-9 _ _ (kept (c .before .before .before .before)) (c .before .before .before .if2 .left)
+    (c .before .before .first-misplaced .ensures) (c .before .if3 .taken))
 
 first-unusable-requires : tie.Need-first-unusable-requires
 first-unusable-requires c κs = short (c .before .before)
@@ -60,7 +59,11 @@ refused-requires-4 : tie.Need-refused-requires-4
 refused-requires-4 c κs = search needs
 
 returns-4 : tie.Need-returns-4
-returns-4 c = let e = c .before .before .before in c .refused4 .ensures ∙ sym (says-10 _ _ (kept (e .before .before .before)) (e .before .before .if2 .left) (e .before .first-misplaced .ensures) (e .if3 .left) (c .before .before .first-unusable .ensures) (c .before .if4 .taken))
+returns-4 c =
+    let e = c .before .before .before in
+    c .refused4 .ensures
+    ∙ sym (says-10 _ _ (kept (e .before .before .before)) (e .before .before .if2 .left)
+    (e .before .first-misplaced .ensures) (e .if3 .left) (c .before .before .first-unusable .ensures) (c .before .if4 .taken))
 
 first-unmet-requires : tie.Need-first-unmet-requires
 first-unmet-requires c κs = short (c .before .before .before .before)
@@ -69,13 +72,27 @@ refused-requires-5 : tie.Need-refused-requires-5
 refused-requires-5 c κs = search needs
 
 returns-5 : tie.Need-returns-5
-returns-5 c = let u = c .before .before .before in let e = u .before .before in c .refused5 .ensures ∙ sym (says-11 _ _ (kept (e .before .before .before)) (e .before .before .if2 .left) (e .before .first-misplaced .ensures) (e .if3 .left) (u .before .first-unusable .ensures) (u .if4 .left) (c .before .before .first-unmet .ensures) (c .before .if5 .taken))
+returns-5 c =
+    let u = c .before .before .before in
+    let e = u .before .before in
+    c .refused5 .ensures
+    ∙ sym (says-11 _ _ (kept (e .before .before .before)) (e .before .before .if2 .left)
+    (e .before .first-misplaced .ensures) (e .if3 .left)
+    (u .before .first-unusable .ensures) (u .if4 .left)
+    (c .before .before .first-unmet .ensures) (c .before .if5 .taken))
 
 refused-requires-6 : tie.Need-refused-requires-6
 refused-requires-6 c κs = search needs
 
 returns-6 : tie.Need-returns-6
-returns-6 c = let u = c .before .before .before in let e = u .before .before in c .refused6 .ensures ∙ sym (accepts _ _ (kept (e .before .before .before)) (e .before .before .if2 .left) (e .before .first-misplaced .ensures) (e .if3 .left) (u .before .first-unusable .ensures) (u .if4 .left) (c .before .before .first-unmet .ensures) (c .before .if5 .left))
+returns-6 c =
+    let u = c .before .before .before in
+    let e = u .before .before in
+    c .refused6 .ensures
+    ∙ sym (accepts _ _ (kept (e .before .before .before)) (e .before .before .if2 .left)
+    (e .before .first-misplaced .ensures) (e .if3 .left)
+    (u .before .first-unusable .ensures) (u .if4 .left)
+    (c .before .before .first-unmet .ensures) (c .before .if5 .left))
 
 pub check-parts-spec : {M : Type 1} → statement M
 check-parts-spec =

@@ -27,7 +27,9 @@ contains-requires : tie.Need-contains-requires Inv-loop μ-loop
 contains-requires c κs = search needs
 
 returns : tie.Need-returns Inv-loop μ-loop
-returns c = let l = c .before .before .before .before in search-found (l .loop .inv .0) (sym (misplaced-by (l .loop .inv .1) (l .before .pre .1) (c .before .contains .ensures)) ∙ c .if1 .taken)
+returns c =
+    let l = c .before .before .before .before in
+    search-found (l .loop .inv .0) (sym (misplaced-by (l .loop .inv .1) (l .before .pre .1) (c .before .contains .ensures)) ∙ c .if1 .taken)
 
 inserted-requires : tie.Need-inserted-requires Inv-loop μ-loop
 inserted-requires c κs = search needs
@@ -39,7 +41,12 @@ loop-less : tie.Need-loop-less Inv-loop μ-loop
 loop-less c = search needs
 
 loop-again : tie.Need-loop-again Inv-loop μ-loop
-loop-again c = let l = c .before .before .before .before .before in (searched-more (l .loop .inv .0) (c .before .before .before .before .loop-test .taken) (sym (misplaced-by (l .loop .inv .1) (l .before .pre .1) (c .before .before .contains .ensures)) ∙ c .before .if1 .left), rw (c .inserted .ensures) (holds-more (l .loop .inv .1)))
+loop-again c =
+    let l = c .before .before .before .before .before in (
+      searched-more (l .loop .inv .0) (c .before .before .before .before .loop-test .taken)
+          (sym (misplaced-by (l .loop .inv .1) (l .before .pre .1) (c .before .before .contains .ensures)) ∙ c .before .if1 .left),
+      rw (c .inserted .ensures) (holds-more (l .loop .inv .1)),
+    )
 
 returns-2 : tie.Need-returns-2 Inv-loop μ-loop
 returns-2 c = search-ended (c .before .loop .inv .0) (c .loop-test .left)

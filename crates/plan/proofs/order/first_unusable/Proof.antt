@@ -42,7 +42,9 @@ loop-less : tie.Need-loop-less Inv-loop μ-loop
 loop-less c = search needs
 
 loop-again : tie.Need-loop-again Inv-loop μ-loop
-loop-again c = searched-more (c .before .before .before .before .before .loop .inv) (c .before .before .before .before .loop-test .taken) (sym (unusable-by _ _ _ _ _ (c .before .is-usable .ensures)) ∙ c .if1 .left)
+loop-again c =
+    searched-more (c .before .before .before .before .before .loop .inv) (c .before .before .before .before .loop-test .taken)
+    (sym (unusable-by _ _ _ _ _ (c .before .is-usable .ensures)) ∙ c .if1 .left)
 
 returns-2 : tie.Need-returns-2 Inv-loop μ-loop
 returns-2 c = search-ended (c .before .loop .inv) (c .loop-test .left)

@@ -37,7 +37,11 @@ loop-less : tie.Need-loop-less Inv-loop μ-loop
 loop-less c = search needs
 
 loop-again : tie.Need-loop-again Inv-loop μ-loop
-loop-again c = upto-more (c .before .before .before .loop-test .taken) (ap₂ _&&_ (c .before .before .before .before .loop .inv .is) (c .pair-ok .ensures ∙ ap₂ (pairOk _) (c .before .before .time-of .ensures) (c .before .time-of2 .ensures)) ∙ sym (all-next _ _))
+loop-again c =
+    upto-more (c .before .before .before .loop-test .taken)
+    (ap₂ _&&_ (c .before .before .before .before .loop .inv .is)
+    (c .pair-ok .ensures ∙ ap₂ (pairOk _) (c .before .before .time-of .ensures) (c .before .time-of2 .ensures))
+    ∙ sym (all-next _ _))
 
 returns : tie.Need-returns Inv-loop μ-loop
 unfolding pairsOk
