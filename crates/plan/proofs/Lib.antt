@@ -5,4 +5,3 @@ pub mod Kept
 pub mod Arranged
 pub mod Verdicts
 pub mod Accepted
-pub mod Examples

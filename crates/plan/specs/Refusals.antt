@@ -55,6 +55,10 @@ noConstraint = constraintOf 0 (replicate mostTasks 0) (replicate mostTasks 0)
 unfoldable pub unlessAt : ℕ → ℕ → (ℕ → Bool) → Verdict → Verdict
 unlessAt number n fault rest = cond (ltb (first n fault) n) (refused number (first n fault)) rest
 
+-- the first of two verdicts that refuses
+unfoldable pub firstRefusal : Verdict → Verdict → Verdict
+firstRefusal v w = cond (eqb (v .number) 0) w v
+
 -- "Numbers are tried in the order listed"
 unfoldable pub verdict : Plan → Constraint → Verdict
 verdict p c =

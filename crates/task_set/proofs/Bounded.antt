@@ -3,13 +3,13 @@ use mathlib.Core.Path.{_≡_, refl, sym, ap, ap₂, _∙_, subst}
 use mathlib.Core.Bool.{Bool, true, false, cond, _&&_, _||_, not, or-false}
 use mathlib.Core.Logic.{_⊎_, inl, inr}
 use Prim.Native.Nat.{ℕ, zero, suc, _+_, _≤_, _<_, zero-le}
-use native.Mathlib.Nat.{le-of-suc-le-suc, not-suc-le-zero, le-step, lt-suc-self, eq-or-lt-of-le}
+use native.Mathlib.Nat.{add-le-add, le-refl, le-of-suc-le-suc, not-suc-le-zero, le-step, lt-suc-self, eq-or-lt-of-le}
 use native.Mathlib.Numerals.{add-one}
 use native.Mathlib.Omega.{arith}
 use borrow.Author.Tests.{eq-eqb, ne-eqb}
 use lib.Dec.{eqb}
 use Rattle.task_set.specs.Bounded.{all, any, count}
-use Rattle.task_set.proofs.Truth.{clash, off, and-left, and-right, or-left, or-right, or-cases, or-none}
+use Rattle.task_set.proofs.Truth.{clash, by-test, off, and-left, and-right, or-left, or-right, or-cases, or-none}
 
 -- what holds below n and at n holds below suc n
 pub below-suc : (P : ℕ → Type 0) (n : ℕ) → ((i : ℕ) → i < n → P i) → P n → (i : ℕ) → i < suc n → P i
@@ -138,3 +138,18 @@ count-more (suc n) p t l e = go (eq-or-lt-of-le (le-of-suc-le-suc l)) (count-mor
         rw (count-cong n (λ i. p i || eqb t i) p (λ i m. others i m q))
         (at (eqb t n) (or-right (p n) (eq-eqb t n q)) (subst (λ (x : ℕ). p x ≡ false) q e))
     go (inr m) ih = rw (ih m e, ne-eqb t n (λ f. omega arith), or-false (p n)) (omega arith)
+
+pub count-mono : (n : ℕ) (p q : ℕ → Bool) → ((i : ℕ) → i < n → p i ≡ true → q i ≡ true) → count n p ≤ count n q
+unfolding count
+count-mono zero p q h = zero-le
+count-mono (suc n) p q h =
+    add-le-add (count-mono n p q (λ i l. h i (le-step l)))
+    (by-test (p n) (λ e. rw (e, h n (lt-suc-self n) e) (le-refl 1)) (λ e. rw e zero-le))
+
+-- where fewer than b pass before each number that passes, no more than b pass
+pub count-bound : (n : ℕ) (p : ℕ → Bool) (b : ℕ) → ((m : ℕ) → m < n → p m ≡ true → count m p < b) → count n p ≤ b
+unfolding count
+count-bound zero p b h = zero-le
+count-bound (suc n) p b h =
+    by-test (p n) (λ e. rw e (omega (arith, h n (lt-suc-self n) e)))
+    (λ e. rw e (omega (arith, count-bound n p b (λ m l. h m (le-step l)))))

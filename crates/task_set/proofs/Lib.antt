@@ -5,3 +5,4 @@ pub mod Search
 pub mod Upto
 pub mod Cover
 pub mod Members
+pub mod Tables

@@ -1,18 +1,18 @@
 -- The laws of membership, each once over the width. Assumes nothing.
 use mathlib.Core.Path.{_≡_, refl, sym, ap, ap₂, _∙_, subst}
-use mathlib.Core.Bool.{Bool, true, false, cond, _&&_, _||_, and-true, and-false}
-use Prim.Native.Nat.{ℕ, zero, suc, _+_, _-_, _*_, _/_, _%_, _^_, _≤_, _<_, suc-le-suc, min, max}
-use native.Mathlib.Nat.{le-of-suc-le-suc, not-suc-le-zero, zero-lt-suc, le-refl, mod-lt, div-one, div-eq-of-lt, zero-div, div-add-mod', lt-of-lt-of-le, lt-of-le-of-lt, div-lt-iff-lt-mul, pow-suc, one-mul, mod-le}
+use mathlib.Core.Bool.{Bool, true, false, cond, _&&_, _||_, and-true, and-false, or-false}
+use Prim.Native.Nat.{ℕ, zero, suc, _+_, _-_, _*_, _/_, _%_, _^_, _≤_, _<_, zero-le, suc-le-suc, min, max}
+use native.Mathlib.Nat.{le-of-suc-le, le-of-suc-le-suc, not-suc-le-zero, zero-lt-suc, le-refl, mod-lt, div-one, div-eq-of-lt, zero-div, div-add-mod', lt-of-lt-of-le, lt-of-le-of-lt, div-lt-iff-lt-mul, pow-suc, one-mul, mod-le}
 use native.Mathlib.Numerals.{one-add, add-one}
 use native.Mathlib.Omega.{arith}
 use lib.Arith.{digits-div, digits-mod, lt-one}
-use lib.Bits.{bitAnd, bitOr, and-step, or-step, and-le-l, shifted-even, shifted-half}
+use lib.Bits.{bitAnd, bitOr, and-step, or-step, and-le-l, or-lt, shifted-even, shifted-half}
 use lib.Count.{ones, ones-step, trailingZeros, under}
 use lib.Dec.{eqb, ltb, eqb·zero-suc, eqb·suc-suc, lit<}
-use lib.Pow.{pow-pos, pow-mono, shl-exact, shr-shr, field, mod-mod-pow}
-use borrow.Author.Tests.{eq-eqb, eqb-true, ne-eqb, lt-ltb, ltb-true, ltb-false}
+use lib.Pow.{pow-pos, pow-mono, pow-lt, shl-exact, shr-shr, field, mod-mod-pow}
+use borrow.Author.Tests.{eq-eqb, eqb-true, ne-eqb, eqb-false, le-ltb, lt-ltb, ltb-true, ltb-false}
 use Rattle.task_set.specs.Bounded.{all, count, first, implies}
-use Rattle.task_set.specs.Sets.{width, has, insert, below, lowest}
+use Rattle.task_set.specs.Sets.{width, has, insert, setOf, below, lowest}
 use Rattle.task_set.proofs.Truth.{clash, by-test, same}
 use Rattle.task_set.proofs.Bounded.{all-intro, all-elim, count-cong, count-front}
 use Rattle.task_set.proofs.Search.{First, first-is, first-cong}
@@ -107,6 +107,34 @@ has-one (suc t) (suc i) =
 pub has-insert : (s t i : ℕ) → t < width → has (insert s t) i ≡ has s i || eqb t i
 unfolding insert
 has-insert s t i l = rw (lt-ltb t width l) (has-or i s (2 ^ t) ∙ ap (λ (b : Bool). has s i || b) (has-one t i))
+
+-- ---- the set of the numbers that pass
+
+-- one number looked at: a member if it passes
+has-grown : (s n t : ℕ) (b : Bool) → n < width → has (cond b (insert s n) s) t ≡ has s t || (eqb n t && b)
+has-grown s n t true l = rw (and-true (eqb n t)) (has-insert s n t l)
+has-grown s n t false l = rw (and-false (eqb n t), or-false (has s t))
+
+pub has-setOf : (n : ℕ) (p : ℕ → Bool) (t : ℕ) → n ≤ width → has (setOf n p) t ≡ ltb t n && p t
+unfolding setOf
+has-setOf zero p t l = rw (le-ltb t 0 zero-le) (has-none t)
+has-setOf (suc n) p t l = rw (has-grown (setOf n p) n t (p n) l, has-setOf n p t (le-of-suc-le l)) (go (eqb n t) refl)
+  where
+    go : (b : Bool) → eqb n t ≡ b → (ltb t n && p t) || (b && p n) ≡ ltb t (suc n) && p t
+    go true e = let q = eqb-true n t e in rw (le-ltb t n (omega arith), lt-ltb t (suc n) (omega arith)) (ap p q)
+    go false e =
+        rw (
+          or-false (ltb t n && p t),
+          same (ltb t n) (ltb t (suc n)) (λ f. lt-ltb t (suc n) (omega (arith, ltb-true t n f)))
+              (λ f. lt-ltb t n (omega (arith, ltb-true t (suc n) f, eqb-false n t e))),
+        )
+
+pub setOf-small : (n : ℕ) (p : ℕ → Bool) → n ≤ width → setOf n p < 2 ^ width
+unfolding setOf insert
+setOf-small zero p l = pow-pos width
+setOf-small (suc n) p l =
+    let h = setOf-small n p (le-of-suc-le l) in
+    by-test (p n) (λ e. rw (e, lt-ltb n width l) (or-lt width (setOf n p) (2 ^ n) h (pow-lt l))) (λ e. rw e h)
 
 -- ---- the members below a number
 

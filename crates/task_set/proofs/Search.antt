@@ -1,8 +1,9 @@
 -- `first`, and the loop that computes it: go up from 0, leave at the first number that passes, or at the end. Assumes nothing.
 use mathlib.Core.Path.{_≡_, refl, sym, _∙_}
+use mathlib.Core.Logic.{⊎-elim}
 use mathlib.Core.Bool.{Bool, true, false, cond}
 use Prim.Native.Nat.{ℕ, zero, suc, _+_, _≤_, _<_, zero-le, suc-le-suc}
-use native.Mathlib.Nat.{le-of-suc-le-suc, not-suc-le-zero, le-refl, lt-of-lt-of-le}
+use native.Mathlib.Nat.{eq-or-lt-of-le, le-of-suc-le-suc, not-suc-le-zero, le-refl, lt-of-lt-of-le}
 use native.Mathlib.Omega.{arith}
 use borrow.Author.Count.{below-more}
 use borrow.Author.Tests.{ltb-true, ltb-false}
@@ -94,3 +95,7 @@ search-ended {n} {p} {i} h l =
 -- nothing passes below the bound
 pub first-none : (n : ℕ) (p : ℕ → Bool) → n ≤ first n p → (i : ℕ) → i < n → p i ≡ false
 first-none n p l i m = first-is n p .searched .before i (lt-of-lt-of-le m l)
+
+-- a search that would pass at its bound ends at a number that passes
+pub first-passes : {n : ℕ} {p : ℕ → Bool} {r : ℕ} → First n p r → p n ≡ true → p r ≡ true
+first-passes f e = ⊎-elim (λ q. rw q e) (f .passes) (eq-or-lt-of-le (f .searched .within))

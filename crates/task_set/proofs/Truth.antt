@@ -58,3 +58,11 @@ or-right-off false b e = e
 
 pub implies-elim : (a b : Bool) → implies a b ≡ true → a ≡ true → b ≡ true
 implies-elim a b e f = rw f at e
+
+pub implies-intro : (a : Bool) {b : Bool} → (a ≡ true → b ≡ true) → implies a b ≡ true
+implies-intro true f = f refl
+implies-intro false f = refl
+
+pub and-map : (a : Bool) {b c : Bool} → (b ≡ true → c ≡ true) → a && b ≡ true → a && c ≡ true
+and-map true f e = f e
+and-map false f e = e

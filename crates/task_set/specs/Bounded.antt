@@ -1,5 +1,6 @@
 -- Tests, counts and searches over the numbers below a bound. Assumes nothing.
 use mathlib.Core.Bool.{Bool, true, false, cond, _&&_, _||_, not}
+use mathlib.Core.List.{List, [], _∷_}
 use Prim.Native.Nat.{ℕ, zero, suc, _+_}
 
 -- a holds only where b does
@@ -25,3 +26,8 @@ count (suc n) p = count n p + cond (p n) 1 0
 unfoldable pub first : ℕ → (ℕ → Bool) → ℕ
 first zero p = 0
 first (suc n) p = cond (p 0) 0 (suc (first n (λ i. p (suc i))))
+
+-- the values of f at 0, .., n - 1
+unfoldable pub tabulate : {A : Type 0} → ℕ → (ℕ → A) → List A
+tabulate zero f = []
+tabulate (suc n) f = f 0 ∷ tabulate n (λ i. f (suc i))

@@ -1,6 +1,6 @@
 -- Sets of task numbers as 64-bit words: "a set of 64 bits, bit t for task t" (document 01, "The plan"). Assumes nothing.
 use mathlib.Core.Bool.{Bool, cond}
-use Prim.Native.Nat.{ℕ, _/_, _%_, _^_}
+use Prim.Native.Nat.{ℕ, zero, suc, _/_, _%_, _^_}
 use lib.Dec.{eqb, ltb}
 use lib.Bits.{bitOr}
 use Rattle.task_set.specs.Bounded.{all, count, first, implies}
@@ -16,6 +16,11 @@ has s t = eqb (s / 2 ^ t % 2) 1
 -- s and the member t; a number too large to be a member adds nothing
 unfoldable pub insert : ℕ → ℕ → ℕ
 insert s t = cond (ltb t width) (bitOr s (2 ^ t)) s
+
+-- the set of the numbers below n that pass p
+unfoldable pub setOf : ℕ → (ℕ → Bool) → ℕ
+setOf zero p = 0
+setOf (suc n) p = cond (p n) (insert (setOf n p) n) (setOf n p)
 
 -- the members of s below n
 unfoldable pub below : ℕ → ℕ → ℕ

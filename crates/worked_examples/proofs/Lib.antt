@@ -1,0 +1,2 @@
+-- The one claim about the worked examples.
+pub mod Worked

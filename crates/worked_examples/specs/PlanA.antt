@@ -1,0 +1,33 @@
+-- Plan A (document 01, "Timetable and program") and the variants of it that "Runs on plan A" names. Assumes nothing.
+use mathlib.Core.List.{List, [], _∷_, _++_}
+use Prim.Native.Nat.{ℕ}
+use lib.ListN.{replicate, set}
+use Rattle.plan.specs.declared.Plan.{Plan}
+use Rattle.plan.specs.declared.Constraint.{Constraint}
+use Rattle.plan.specs.Rules.{mostPairs, pairIndex}
+use Rattle.plan.specs.Refusals.{planOf, constraintOf}
+
+-- the times of the T lines, in their order
+unfoldable pub times : ℕ → ℕ → ℕ → ℕ → ℕ → ℕ → List ℕ
+times t0 t1 t2 t3 t3′ t4 =
+    set (set (set (set (set (set (replicate mostPairs 0) (pairIndex 0 0) t0) (pairIndex 1 0) t1) (pairIndex 2 1) t2)
+    (pairIndex 3 0) t3) (pairIndex 3 1) t3′) (pairIndex 4 0) t4
+
+-- plan A with so many units of type 1
+unfoldable pub planWith : ℕ → Plan
+planWith units =
+    planOf 2 (1 ∷ units ∷ replicate 6 0) 5 (times 1 1 2 2 1 1) (times 2 3 4 5 3 2) (0 ∷ 0 ∷ 1 ∷ 2 ∷ 4 ∷ replicate 59 0)
+
+unfoldable pub planA : Plan
+planA = planWith 2
+
+-- five entries of task and type
+unfoldable pub fiveEntries : List ℕ → List ℕ → Constraint
+fiveEntries order chosen = constraintOf 5 (order ++ replicate 59 0) (chosen ++ replicate 59 0)
+
+unfoldable pub orderA : Constraint
+orderA = fiveEntries (0 ∷ 1 ∷ 2 ∷ 3 ∷ 4 ∷ []) (0 ∷ 0 ∷ 1 ∷ 1 ∷ 0 ∷ [])
+
+-- P4: task 3 before task 2
+unfoldable pub orderB : Constraint
+orderB = fiveEntries (0 ∷ 1 ∷ 3 ∷ 2 ∷ 4 ∷ []) (0 ∷ 0 ∷ 1 ∷ 1 ∷ 0 ∷ [])
