@@ -2,15 +2,15 @@
 use mathlib.Core.Path.{_≡_, refl, sym, ap, ap₂, _∙_}
 use mathlib.Core.Bool.{Bool, true, false, cond}
 use Prim.Native.Nat.{ℕ, zero, suc, _+_, _≤_, _<_}
-use native.Mathlib.Nat.{le-step, lt-suc-self, zero-add, add-zero}
+use native.Mathlib.Nat.{le-trans, le-of-eq, le-antisymm, le-step, lt-suc-self, zero-add, add-zero}
 use native.Mathlib.Decide.{le-ind}
 use native.Mathlib.Omega.{arith}
 use borrow.Author.Tests.{eq-eqb, eqb-true}
 use lib.Dec.{eqb}
 use Rattle.task_set.specs.Bounded.{count}
 use Rattle.task_set.proofs.Truth.{off}
-use Rattle.dispatch_theory.specs.Sums.{sum}
-use Rattle.dispatch_theory.proofs.Sums.{sum-cong, sum-zero}
+use Rattle.dispatch_theory.specs.Sums.{sum, greatest}
+use Rattle.dispatch_theory.proofs.Sums.{sum-cong, sum-zero, greatest-lub, greatest-le}
 
 sum-add : (n : ℕ) (f g : ℕ → ℕ) → sum n (λ i. f i + g i) ≡ sum n f + sum n g
 unfolding sum
@@ -57,6 +57,14 @@ sum-reorder n f g low once somewhere =
         let r = somewhere t l in
         sum-only n (r .0) (λ i. eqb (f i) t) (λ i. g t) (r .1) (eq-eqb _ _ (r .2))
         (λ i m q. once i (r .0) m (r .1) (eqb-true _ _ q ∙ sym (r .2)))
+
+-- f takes each number below n to one of them, and leaves none out
+pub greatest-reorder : (n : ℕ) (f g : ℕ → ℕ) → ((i : ℕ) → i < n → f i < n) → ((t : ℕ) → t < n → (i : ℕ) × (i < n) × (f i ≡ t))
+    → greatest n (λ i. g (f i)) ≡ greatest n g
+greatest-reorder n f g low somewhere =
+    le-antisymm (greatest-lub n (λ i. g (f i)) (greatest n g) (λ i l. greatest-le n g (f i) (low i l)))
+    (greatest-lub n g (greatest n (λ i. g (f i)))
+    (λ t l. let r = somewhere t l in le-trans (le-of-eq (ap g (sym (r .2)))) (greatest-le n (λ i. g (f i)) (r .0) (r .1))))
 
 -- ---- counts are sums
 

@@ -11,7 +11,7 @@ use Rattle.task_set.specs.Bounded.{any, implies}
 use Rattle.task_set.specs.Sets.{width, has, insert, subset}
 use Rattle.task_set.proofs.Truth.{by-test}
 use Rattle.task_set.proofs.Bounded.{any-cong, any-next, not-all}
-use Rattle.task_set.proofs.Members.{has-none, has-insert}
+use Rattle.task_set.proofs.Members.{has-none, has-insert-low}
 use Rattle.plan.specs.Rules.{predecessorsOf}
 use Rattle.plan.specs.Refusals.{entryAt, misplaced}
 use Rattle.plan.specs.Steps.{placed, unmet}
@@ -25,17 +25,13 @@ unfolding placed any
 holds-none = record { has-placed = λ u l. has-none u }
 
 pub holds-more : {order : List ℕ} {i s : ℕ} → Holds order i s → Holds order (i + 1) (insert s (entryAt order i))
-unfolding placed insert
-holds-more {order} {i} {s} h = record { has-placed = λ u l. inserted u l ∙ sym (any-next i (λ j. eqb (entryAt order j) u)) }
-  where
-    t : ℕ
-    t = entryAt order i
-
-    inserted : (u : ℕ) → u < width → has (insert s t) u ≡ any i (λ j. eqb (entryAt order j) u) || eqb t u
-    inserted u l =
-        by-test (ltb t width)
-        (λ e. has-insert s t u (ltb-true t width e) ∙ ap (λ (b : Bool). b || eqb t u) (h .has-placed u l))
-        (λ e. rw (e, ne-eqb t u (λ q. omega (arith, ltb-false t width e)), or-false) (h .has-placed u l))
+unfolding placed
+holds-more {order} {i} {s} h =
+    record {
+      has-placed = λ u l.
+          has-insert-low s (entryAt order i) u l ∙ ap (λ (b : Bool). b || eqb (entryAt order i) u) (h .has-placed u l)
+          ∙ sym (any-next i (λ j. eqb (entryAt order j) u));
+    }
 
 -- what the loops test, from the answers of the functions that they call
 module _ {order : List ℕ} {i s : ℕ} (h : Holds order i s) where

@@ -52,11 +52,11 @@ startsOf p c d = starts (ruleGate (orderOf p c)) (λ j. 0) 0 (durations c d)
 abbrev pub entryOf : Constraint → ℕ → Entry
 entryOf c j = record { task = entryAt (c .order) j; type = entryAt (c .chosen) j }
 
-entries-from : (c : Constraint) (k : ℕ) → k < c .len → drop k (entries c) ≡ entryOf c k ∷ drop (suc k) (entries c)
+pub entries-from : (c : Constraint) (k : ℕ) → k < c .len → drop k (entries c) ≡ entryOf c k ∷ drop (suc k) (entries c)
 unfolding entries
 entries-from c k l = drop-tabulate (c .len) (entryOf c) k l
 
-entries-end : (c : Constraint) → drop (c .len) (entries c) ≡ []
+pub entries-end : (c : Constraint) → drop (c .len) (entries c) ≡ []
 unfolding entries
 entries-end c = drop-all (c .len) (entryOf c)
 
@@ -73,7 +73,7 @@ once-some true x s e = cc
 once-some false x s e = let z : _≡_ {A = ℕ} 0 1 = ap (λ (o : Option ℕ). cond (given o) 1 0) e in absurd (omega arith)
 
 -- notes are equal where their parts are
-notes-ext : {n m : Notes} → n .instant ≡ m .instant → ((t : ℕ) → n .start t ≡ m .start t) → ((t : ℕ) → n .finish t ≡ m .finish t) → n ≡ m
+pub notes-ext : {n m : Notes} → n .instant ≡ m .instant → ((t : ℕ) → n .start t ≡ m .start t) → ((t : ℕ) → n .finish t ≡ m .finish t) → n ≡ m
 notes-ext {n} {m} e f g =
     ap (λ (i : ℕ). record { instant = i; start = n .start; finish = n .finish }) e
     ∙ ap₂ (λ (s : ℕ → Option ℕ) (r : ℕ → Option ℕ). record { instant = m .instant; start = s; finish = r }) (fun-ext f) (fun-ext g)

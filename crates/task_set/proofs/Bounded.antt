@@ -6,10 +6,10 @@ use Prim.Native.Nat.{ℕ, zero, suc, _+_, _≤_, _<_, zero-le}
 use native.Mathlib.Nat.{add-le-add, le-refl, le-of-suc-le-suc, not-suc-le-zero, le-step, lt-suc-self, eq-or-lt-of-le}
 use native.Mathlib.Numerals.{add-one}
 use native.Mathlib.Omega.{arith}
-use borrow.Author.Tests.{eq-eqb, ne-eqb}
-use lib.Dec.{eqb}
+use borrow.Author.Tests.{eq-eqb, eqb-true, ne-eqb, ltb-true, ltb-false}
+use lib.Dec.{eqb, ltb}
 use Rattle.task_set.specs.Bounded.{all, any, count}
-use Rattle.task_set.proofs.Truth.{clash, by-test, off, and-left, and-right, or-left, or-right, or-cases, or-none}
+use Rattle.task_set.proofs.Truth.{clash, by-test, off, same, and-left, and-right, or-left, or-right, or-cases, or-none}
 
 -- what holds below n and at n holds below suc n
 pub below-suc : (P : ℕ → Type 0) (n : ℕ) → ((i : ℕ) → i < n → P i) → P n → (i : ℕ) → i < suc n → P i
@@ -31,6 +31,23 @@ unfolding all
 all-elim zero p e i l = absurd (not-suc-le-zero l)
 all-elim (suc n) p e i l =
     below-suc (λ i. p i ≡ true) n (all-elim n p (and-left (all n p) (p n) e)) (and-right (all n p) (p n) e) i l
+
+pub all-cong : (n : ℕ) (p q : ℕ → Bool) → ((i : ℕ) → i < n → p i ≡ q i) → all n p ≡ all n q
+unfolding all
+all-cong zero p q h = refl
+all-cong (suc n) p q h = ap₂ _&&_ (all-cong n p q (λ i l. h i (le-step l))) (h n (lt-suc-self n))
+
+-- every one passes both tests: every one passes each
+pub all-both : (n : ℕ) (p q : ℕ → Bool) → all n (λ i. p i && q i) ≡ all n p && all n q
+unfolding all
+all-both zero p q = refl
+all-both (suc n) p q = ap (λ (b : Bool). b && (p n && q n)) (all-both n p q) ∙ go (all n p) (all n q) (p n)
+  where
+    go : (a b c : Bool) → (a && b) && (c && q n) ≡ (a && c) && (b && q n)
+    go true true c = refl
+    go true false true = refl
+    go true false false = refl
+    go false b c = refl
 
 -- a loop's next step
 pub all-next : (n : ℕ) (p : ℕ → Bool) → all (n + 1) p ≡ all n p && p n
@@ -119,6 +136,24 @@ count-full (suc n) p e i l = go (p n) refl e (count-full n p)
     go : (b : Bool) → p n ≡ b → count n p + cond b 1 0 ≡ suc n → (count n p ≡ n → (i : ℕ) → i < n → p i ≡ true) → p i ≡ true
     go true f e ih = below-suc (λ i. p i ≡ true) n (ih (omega arith)) f i l
     go false f e ih = absurd (omega (arith, count-le n p))
+
+pub count-every : (n : ℕ) (p : ℕ → Bool) → ((i : ℕ) → i < n → p i ≡ true) → count n p ≡ n
+unfolding count
+count-every zero p h = refl
+count-every (suc n) p h =
+    ap₂ (λ (k : ℕ) (b : Bool). k + cond b 1 0) (count-every n p (λ i l. h i (le-step l))) (h n (lt-suc-self n)) ∙ add-one n
+
+-- all of them are counted exactly if each passes
+pub count-all : (n : ℕ) (p : ℕ → Bool) → eqb (count n p) n ≡ all n p
+count-all n p =
+    same (eqb (count n p) n) (all n p) (λ e. all-intro n p (count-full n p (eqb-true _ _ e)))
+    (λ e. eq-eqb _ _ (count-every n p (all-elim n p e)))
+
+-- one that does not pass leaves fewer than all
+pub count-short : (n : ℕ) (p : ℕ → Bool) (i : ℕ) → i < n → p i ≡ false → count n p < n
+count-short n p i l e =
+    by-test (ltb (count n p) n) (ltb-true _ _)
+    (λ f. absurd (clash (count-full n p (omega (arith, count-le n p, ltb-false (count n p) n f)) i l) e))
 
 -- one number more
 pub count-more : (n : ℕ) (p : ℕ → Bool) (t : ℕ) → t < n → p t ≡ false → count n (λ i. p i || eqb t i) ≡ suc (count n p)

@@ -9,7 +9,7 @@ use Rattle.task_set.proofs.Bounded.{any-elim, count-none, count-more, c
 
 module _ (n : ℕ) (f : ℕ → ℕ) (low : (i : ℕ) → i < n → f i < n) (new : (i : ℕ) → i < n → any i (λ j. eqb (f j) (f i)) ≡ false) where
   -- there are as many numbers among the first i as there are places
-  counted : (i : ℕ) → i ≤ n → count n (λ t. any i (λ j. eqb (f j) t)) ≡ i
+  pub counted : (i : ℕ) → i ≤ n → count n (λ t. any i (λ j. eqb (f j) t)) ≡ i
   unfolding any
   counted zero l = count-none n (λ t. false) (λ t m. refl)
   counted (suc i) l = count-more n (λ t. any i (λ j. eqb (f j) t)) (f i) (low i l) (new i l) ∙ ap suc (counted i (le-of-suc-le l))

@@ -1,20 +1,20 @@
 -- The laws of membership, each once over the width. Assumes nothing.
 use mathlib.Core.Path.{_≡_, refl, sym, ap, ap₂, _∙_, subst}
-use mathlib.Core.Bool.{Bool, true, false, cond, _&&_, _||_, and-true, and-false, or-false}
+use mathlib.Core.Bool.{Bool, true, false, cond, _&&_, _||_, not, and-true, and-false, or-true, or-false}
 use Prim.Native.Nat.{ℕ, zero, suc, _+_, _-_, _*_, _/_, _%_, _^_, _≤_, _<_, zero-le, suc-le-suc, min, max}
 use native.Mathlib.Nat.{le-of-suc-le, le-of-suc-le-suc, not-suc-le-zero, zero-lt-suc, le-refl, mod-lt, div-one, div-eq-of-lt, zero-div, div-add-mod', lt-of-lt-of-le, lt-of-le-of-lt, div-lt-iff-lt-mul, pow-suc, one-mul, mod-le}
 use native.Mathlib.Numerals.{one-add, add-one}
 use native.Mathlib.Omega.{arith}
 use lib.Arith.{digits-div, digits-mod, lt-one}
-use lib.Bits.{bitAnd, bitOr, and-step, or-step, and-le-l, or-lt, shifted-even, shifted-half}
+use lib.Bits.{bitAnd, bitOr, bitXor, differ, and-step, or-step, xor-step, and-le-l, or-lt, xor-lt, shifted-even, shifted-half}
 use lib.Count.{ones, ones-step, trailingZeros, under}
 use lib.Dec.{eqb, ltb, eqb·zero-suc, eqb·suc-suc, lit<}
 use lib.Pow.{pow-pos, pow-mono, pow-lt, shl-exact, shr-shr, field, mod-mod-pow}
-use borrow.Author.Tests.{eq-eqb, eqb-true, ne-eqb, eqb-false, le-ltb, lt-ltb, ltb-true, ltb-false}
+use borrow.Author.Tests.{eq-eqb, eqb-true, ne-eqb, eqb-false, le-ltb, lt-ltb, ltb-true, ltb-false, not-true}
 use Rattle.task_set.specs.Bounded.{all, count, first, implies}
-use Rattle.task_set.specs.Sets.{width, has, insert, setOf, below, lowest}
+use Rattle.task_set.specs.Sets.{width, has, insert, without, remove, setOf, below, lowest, size}
 use Rattle.task_set.proofs.Truth.{clash, by-test, same}
-use Rattle.task_set.proofs.Bounded.{all-intro, all-elim, count-cong, count-front}
+use Rattle.task_set.proofs.Bounded.{all-intro, all-elim, count-cong, count-front, count-more}
 use Rattle.task_set.proofs.Search.{First, first-is, first-cong}
 
 two-pos : zero < 2
@@ -87,7 +87,32 @@ has-or =
     (digit (Agrees max _||_ 0) (two-pos, refl) (le-refl 2, refl))
     (digit (Agrees max _||_ 1) (le-refl 2, refl) (le-refl 2, refl)))
 
--- ---- one member, and one member more
+-- one digit of two, and not both
+xor : Bool → Bool → Bool
+xor a b = cond a (not b) b
+
+has-xor : (t a b : ℕ) → has (bitXor a b) t ≡ xor (has a t) (has b t)
+unfolding Agrees xor
+has-xor =
+    has-op bitXor differ xor xor-step
+    (digit (λ (x : ℕ). (y : ℕ) → y < 2 → Agrees differ xor x y)
+    (digit (Agrees differ xor 0) (two-pos, refl) (le-refl 2, refl))
+    (digit (Agrees differ xor 1) (le-refl 2, refl) (two-pos, refl)))
+
+-- the members of one set that are not members of another
+pub has-without : (a b t : ℕ) → has (without a b) t ≡ has a t && not (has b t)
+unfolding without xor
+has-without a b t = has-xor t a (bitAnd a b) ∙ rw (has-and t a b) (go (has a t) (has b t))
+  where
+    go : (x y : Bool) → cond x (not (x && y)) (x && y) ≡ x && not y
+    go true y = refl
+    go false y = refl
+
+pub without-small : (k a b : ℕ) → a < 2 ^ k → without a b < 2 ^ k
+unfolding without
+without-small k a b l = xor-lt k a (bitAnd a b) l (lt-of-le-of-lt (and-le-l a b) l)
+
+-- ---- one member, and one member more or less
 
 -- the word with one bit, as a shift makes it
 pub shifted-one : (t : ℕ) → t < width → 1 * 2 ^ t % 2 ^ width ≡ 2 ^ t
@@ -107,6 +132,10 @@ has-one (suc t) (suc i) =
 pub has-insert : (s t i : ℕ) → t < width → has (insert s t) i ≡ has s i || eqb t i
 unfolding insert
 has-insert s t i l = rw (lt-ltb t width l) (has-or i s (2 ^ t) ∙ ap (λ (b : Bool). has s i || b) (has-one t i))
+
+pub has-remove : (s t i : ℕ) → t < width → has (remove s t) i ≡ has s i && not (eqb t i)
+unfolding remove
+has-remove s t i l = rw (lt-ltb t width l) (has-without s (2 ^ t) i ∙ ap (λ (b : Bool). has s i && not b) (has-one t i))
 
 -- ---- the set of the numbers that pass
 
@@ -135,6 +164,17 @@ setOf-small zero p l = pow-pos width
 setOf-small (suc n) p l =
     let h = setOf-small n p (le-of-suc-le l) in
     by-test (p n) (λ e. rw (e, lt-ltb n width l) (or-lt width (setOf n p) (2 ^ n) h (pow-lt l))) (λ e. rw e h)
+
+-- of a number that can be a member, whatever t is
+pub has-insert-low : (s t u : ℕ) → u < width → has (insert s t) u ≡ has s u || eqb t u
+unfolding insert
+has-insert-low s t u l =
+    by-test (ltb t width) (λ e. has-insert s t u (ltb-true t width e))
+    (λ e. rw (e, ne-eqb t u (λ q. omega (arith, ltb-false t width e))) (sym (or-false (has s u))))
+
+pub insert-small : (s t : ℕ) → s < 2 ^ width → insert s t < 2 ^ width
+unfolding insert
+insert-small s t l = by-test (ltb t width) (λ e. rw e (or-lt width s (2 ^ t) l (pow-lt (ltb-true t width e)))) (λ e. rw e l)
 
 -- ---- the members below a number
 
@@ -197,6 +237,16 @@ pub below-mask : (k s n : ℕ) → s < 2 ^ k → eqb (below s n) s ≡ all k (λ
 unfolding below
 below-mask k s n l = kept k s (below s n) (λ t. ltb t n) l (lt-of-le-of-lt (mod-le s (2 ^ n)) l) (has-below s n)
 
+-- ---- sets with no common member, by a mask
+
+pub apart-mask : (k a b : ℕ) → a < 2 ^ k → eqb (bitAnd a b) 0 ≡ all k (λ t. not (has a t && has b t))
+apart-mask k a b l =
+    same (eqb (bitAnd a b) 0) (all k (λ t. not (has a t && has b t)))
+    (λ e. all-intro k (λ t. not (has a t && has b t)) (λ t m. ap not (sym (has-and t a b) ∙ ap (λ (x : ℕ). has x t) (eqb-true _ _ e) ∙ has-none t)))
+    (λ e. eq-eqb (bitAnd a b) 0
+    (set-ext k (bitAnd a b) 0 (lt-of-le-of-lt (and-le-l a b) l) (pow-pos k)
+    (λ t m. has-and t a b ∙ not-true _ (all-elim k (λ t. not (has a t && has b t)) e t m) ∙ sym (has-none t))))
+
 -- ---- the lowest member is the first one
 
 under-cond : (x n : ℕ) → x < 2 → under x n ≡ cond (eqb x 1) 0 (suc n)
@@ -214,6 +264,13 @@ pub lowest-first : (s : ℕ) → First width (has s) (lowest s)
 unfolding lowest
 lowest-first s = first-is width (has s)
 
+-- a set that is not empty has a lowest member
+pub lowest-low : (s : ℕ) → s < 2 ^ width → (s ≡ 0 → ⊥) → lowest s < width
+lowest-low s h f = by-test (ltb (lowest s) width) (ltb-true _ _) (λ e. absurd (f (set-ext width s 0 h (pow-pos width) (none (ltb-false _ _ e)))))
+  where
+    none : width ≤ lowest s → (t : ℕ) → t < width → has s t ≡ has 0 t
+    none l t m = lowest-first s .searched .before t (lt-of-lt-of-le m l) ∙ sym (has-none t)
+
 -- ---- the count of ones is the number of members, and of a masked set the number of members that pass
 
 digit-cond : (x : ℕ) → x < 2 → x ≡ cond (eqb x 1) 1 0
@@ -230,3 +287,14 @@ ones-count (suc k) s h =
 
 pub ones-masked : (k s m : ℕ) → bitAnd s m < 2 ^ k → ones (bitAnd s m) ≡ count k (λ t. has s t && has m t)
 ones-masked k s m h = ones-count k (bitAnd s m) h ∙ count-cong k (has (bitAnd s m)) (λ t. has s t && has m t) (λ t l. has-and t s m)
+
+-- a set without one of its members has one member fewer
+pub size-remove : (s t : ℕ) → t < width → has s t ≡ true → size s ≡ suc (size (remove s t))
+unfolding size
+size-remove s t l e =
+    count-cong width (has s) (λ i. has (remove s t) i || eqb t i) (λ i m. sym (ap (λ (b : Bool). b || eqb t i) (has-remove s t i l) ∙ go i (eqb t i) refl))
+    ∙ count-more width (has (remove s t)) t l (has-remove s t t l ∙ rw (eq-eqb t t refl) (and-false (has s t)))
+  where
+    go : (i : ℕ) (b : Bool) → eqb t i ≡ b → (has s i && not b) || b ≡ has s i
+    go i true q = or-true (has s i && false) ∙ sym (ap (has s) (sym (eqb-true t i q)) ∙ e)
+    go i false q = or-false (has s i && true) ∙ and-true (has s i)

@@ -1,9 +1,10 @@
 -- The laws of `tabulate`. Assumes nothing.
-use mathlib.Core.Path.{_≡_, refl, ap}
+use mathlib.Core.Path.{_≡_, refl, ap, ap₂}
 use mathlib.Core.List.{[], _∷_}
-use Prim.Native.Nat.{ℕ, zero, suc, _<_}
-use native.Mathlib.Nat.{le-of-suc-le-suc, not-suc-le-zero, le-of-eq}
-use lib.ListN.{length, getD, drop, drop-of-length-le}
+use Prim.Native.Nat.{ℕ, zero, suc, _<_, suc-le-suc}
+use native.Mathlib.Nat.{le-of-suc-le-suc, not-suc-le-zero, le-of-eq, zero-lt-suc}
+use native.Mathlib.Omega.{arith}
+use lib.ListN.{length, getD, drop, set, replicate, drop-of-length-le}
 use lib.Seq.{drop-cons}
 use Rattle.task_set.specs.Bounded.{tabulate}
 
@@ -24,3 +25,25 @@ drop-tabulate n f i l = rw (getD-tabulate n f i (f i) l) at (drop-cons (tabulate
 
 pub drop-all : {A : Type 0} (n : ℕ) (f : ℕ → A) → drop n (tabulate n f) ≡ []
 drop-all n f = drop-of-length-le (tabulate n f) (le-of-eq (length-tabulate n f))
+
+-- ---- a table that is made and then written
+
+pub tabulate-cong : {A : Type 0} (n : ℕ) (f g : ℕ → A) → ((i : ℕ) → i < n → f i ≡ g i) → tabulate n f ≡ tabulate n g
+unfolding tabulate
+tabulate-cong zero f g h = refl
+tabulate-cong (suc n) f g h =
+    ap₂ _∷_ (h 0 (zero-lt-suc n)) (tabulate-cong n (λ i. f (suc i)) (λ i. g (suc i)) (λ i l. h (suc i) (suc-le-suc l)))
+
+pub replicate-tabulate : {A : Type 0} (n : ℕ) (a : A) → replicate n a ≡ tabulate n (λ i. a)
+unfolding tabulate
+replicate-tabulate zero a = refl
+replicate-tabulate (suc n) a = ap₂ _∷_ refl (replicate-tabulate n a)
+
+-- the table of f with g i put at i is the table of g, where g is f elsewhere
+pub set-tabulate : {A : Type 0} (n : ℕ) (f g : ℕ → A) (i : ℕ) → ((j : ℕ) → (j ≡ i → ⊥) → f j ≡ g j) → set (tabulate n f) i (g i) ≡ tabulate n g
+unfolding tabulate
+set-tabulate zero f g i h = refl
+set-tabulate (suc n) f g zero h =
+    ap₂ _∷_ refl (tabulate-cong n (λ j. f (suc j)) (λ j. g (suc j)) (λ j l. h (suc j) (λ e. omega arith)))
+set-tabulate (suc n) f g (suc i) h =
+    ap₂ _∷_ (h 0 (λ e. omega arith)) (set-tabulate n (λ j. f (suc j)) (λ j. g (suc j)) i (λ j q. h (suc j) (λ e. q (omega arith))))

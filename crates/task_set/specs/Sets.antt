@@ -2,7 +2,7 @@
 use mathlib.Core.Bool.{Bool, cond}
 use Prim.Native.Nat.{ℕ, zero, suc, _/_, _%_, _^_}
 use lib.Dec.{eqb, ltb}
-use lib.Bits.{bitOr}
+use lib.Bits.{bitAnd, bitOr, bitXor}
 use Rattle.task_set.specs.Bounded.{all, count, first, implies}
 
 -- how many numbers can be members
@@ -16,6 +16,14 @@ has s t = eqb (s / 2 ^ t % 2) 1
 -- s and the member t; a number too large to be a member adds nothing
 unfoldable pub insert : ℕ → ℕ → ℕ
 insert s t = cond (ltb t width) (bitOr s (2 ^ t)) s
+
+-- the members of a that are not members of b
+unfoldable pub without : ℕ → ℕ → ℕ
+without a b = bitXor a (bitAnd a b)
+
+-- s without the member t; a number too large to be a member removes nothing
+unfoldable pub remove : ℕ → ℕ → ℕ
+remove s t = cond (ltb t width) (without s (2 ^ t)) s
 
 -- the set of the numbers below n that pass p
 unfoldable pub setOf : ℕ → (ℕ → Bool) → ℕ

@@ -1,7 +1,7 @@
 // Sets of task numbers 0 to 63, as the bits of a word: bit t for task t.
 // Every function takes every number: one of 64 or more is in no set.
 ghost use mathlib.Core.Path.{_≡_};
-ghost use Rattle.task_set.specs.Sets.{below, has, insert, lowest, size, subset};
+ghost use Rattle.task_set.specs.Sets.{below, has, insert, lowest, remove, size, subset, without};
 
 // How many numbers can be members.
 pub const WIDTH: usize = 64;
@@ -22,6 +22,22 @@ pub fn inserted(s: u64, t: usize) -> u64
         return s;
     }
     s | (1u64 << t)
+}
+
+pub fn removed(s: u64, t: usize) -> u64
+    ensures { λ r. ⌜ r ≡ remove s t ⌝ }
+{
+    if WIDTH <= t {
+        return s;
+    }
+    s ^ (s & (1u64 << t))
+}
+
+// The members of a that are not members of b.
+pub fn difference(a: u64, b: u64) -> u64
+    ensures { λ r. ⌜ r ≡ without a b ⌝ }
+{
+    a ^ (a & b)
 }
 
 // The members of s below n.

@@ -1,0 +1,83 @@
+-- The form of a line (document 01, "The plan text"). A line is given without the newline that ends it. Assumes nothing.
+use mathlib.Core.Bool.{Bool, true, cond, _&&_, _||_, not}
+use mathlib.Core.List.{List, [], _∷_}
+use Prim.Native.Nat.{ℕ, _+_, _-_, _*_}
+use lib.Dec.{eqb}
+use lib.ListN.{length, getD}
+use Rattle.plan.specs.Rules.{between}
+use Rattle.plan_text.specs.declared.Line.{Line}
+use Rattle.plan_text.specs.declared.Line.the-variants.{Units, Times, Arrow, Choice, NoLine}
+
+-- ---- the bytes
+
+abbrev pub newline : ℕ
+newline = 10
+
+abbrev pub tab : ℕ
+tab = 9
+
+-- the digits 0 to 9
+abbrev pub isDigit : ℕ → Bool
+isDigit b = between 48 b 57
+
+abbrev pub digitValue : ℕ → ℕ
+digitValue b = b - 48
+
+-- ---- parts
+
+abbrev pub prepend : ℕ → List (List ℕ) → List (List ℕ)
+prepend b [] = (b ∷ []) ∷ []
+prepend b (part ∷ parts) = (b ∷ part) ∷ parts
+
+-- the parts of s before, between and after the separators
+unfoldable pub split : ℕ → List ℕ → List (List ℕ)
+split separator [] = [] ∷ []
+split separator (b ∷ s) = cond (eqb b separator) ([] ∷ split separator s) (prepend b (split separator s))
+
+-- ---- a field: "1 to 5 digits, no sign, no leading zero except for 0 itself"
+
+abbrev pub mostDigits : ℕ
+mostDigits = 5
+
+unfoldable pub allDigits : List ℕ → Bool
+allDigits [] = true
+allDigits (b ∷ s) = isDigit b && allDigits s
+
+unfoldable pub isField : List ℕ → Bool
+isField s = between 1 (length s) mostDigits && (allDigits s && (eqb (length s) 1 || not (eqb (getD s 0 0) 48)))
+
+-- the decimal number of v and the digits that follow it
+unfoldable pub valueFrom : ℕ → List ℕ → ℕ
+valueFrom v [] = v
+valueFrom v (b ∷ s) = valueFrom (v * 10 + digitValue b) s
+
+unfoldable pub allFields : List (List ℕ) → Bool
+allFields [] = true
+allFields (s ∷ rest) = isField s && allFields rest
+
+unfoldable pub values : List (List ℕ) → List ℕ
+values [] = []
+values (s ∷ rest) = valueFrom 0 s ∷ values rest
+
+-- ---- a line: "a letter, then decimal fields, each after one tab"
+
+-- the part is this one letter
+abbrev pub isLetter : ℕ → List ℕ → Bool
+isLetter letter part = eqb (length part) 1 && eqb (getD part 0 0) letter
+
+-- U, type, count of units; T, task, type, best, worst; A, from, to; C, task, type
+unfoldable pub formOf : List ℕ → List ℕ → Line
+formOf letter vs =
+    let v = getD vs in
+    cond (isLetter 85 letter && eqb (length vs) 2) (Units (v 0 0) (v 1 0))
+    (cond (isLetter 84 letter && eqb (length vs) 4) (Times (v 0 0) (v 1 0) (v 2 0) (v 3 0))
+    (cond (isLetter 65 letter && eqb (length vs) 2) (Arrow (v 0 0) (v 1 0))
+    (cond (isLetter 67 letter && eqb (length vs) 2) (Choice (v 0 0) (v 1 0))
+    NoLine)))
+
+abbrev pub lineOfParts : List (List ℕ) → Line
+lineOfParts [] = NoLine
+lineOfParts (letter ∷ fields) = cond (allFields fields) (formOf letter (values fields)) NoLine
+
+unfoldable pub lineOf : List ℕ → Line
+lineOf s = lineOfParts (split tab s)

@@ -1,0 +1,95 @@
+-- What inner functions of the reader compute. No promise of a public function cites it. Assumes nothing.
+use mathlib.Core.Path.{_≡_}
+use mathlib.Core.Bool.{true, cond, _&&_}
+use mathlib.Core.List.{List, [], _∷_}
+use Prim.Native.Nat.{ℕ, suc, _+_, _-_, _^_, _≤_, _<_}
+use lib.Dec.{eqb, ltb}
+use lib.ListN.{length, getD, take, drop, set, replicate}
+use Rattle.plan_text.specs.declared.Line.{Line}
+use Rattle.plan_text.specs.declared.Line.the-variants.{Units, Times, Arrow, Choice, NoLine}
+use Rattle.plan_text.specs.declared.step.Counts.{Counts}
+use Rattle.plan_text.specs.declared.form.Field.{Field}
+use Rattle.plan_text.specs.declared.form.Field.the-variants.{Number, NoField}
+use Rattle.plan_text.specs.declared.form.Fields.{Fields}
+use Rattle.plan_text.specs.Form.{mostDigits, allDigits, isField, valueFrom, lineOf}
+use Rattle.plan_text.specs.Reading.{Reading}
+
+-- ---- the first part
+
+-- how many bytes stand before the first separator, or all of them
+unfoldable pub partLength : ℕ → List ℕ → ℕ
+partLength separator [] = 0
+partLength separator (b ∷ s) = cond (eqb b separator) 0 (suc (partLength separator s))
+
+abbrev pub firstPart : ℕ → List ℕ → List ℕ
+firstPart separator s = take (partLength separator s) s
+
+-- ---- fields
+
+-- the first n bytes of s are digits, few enough for a field, and make the value v
+pub record Digits (s : List ℕ) (n v : ℕ) : Type 0 where
+  pub within : n ≤ length s
+  pub few : n ≤ mostDigits
+  pub digits : allDigits (take n s) ≡ true
+  pub value : v ≡ valueFrom 0 (take n s)
+  pub small : v < 10 ^ n
+
+unfoldable pub fieldOf : List ℕ → Field
+fieldOf part = cond (isField part) (Number (valueFrom 0 part) (length part)) NoField
+
+-- the most fields of a form
+abbrev pub mostFields : ℕ
+mostFields = 4
+
+abbrev pub noFields : Fields
+noFields = record { count = 0; values = replicate mostFields 0 }
+
+-- n fields with these values, and the parts after them
+unfoldable pub fieldsFrom : List (List ℕ) → ℕ → List ℕ → Fields
+fieldsFrom [] n values = record { count = n; values = values }
+fieldsFrom (part ∷ parts) n values =
+    let further = fieldsFrom parts (n + 1) (set values n (valueFrom 0 part)) in
+    cond (ltb n mostFields && isField part) further noFields
+
+abbrev pub fieldsOf : List (List ℕ) → Fields
+fieldsOf parts = fieldsFrom parts (noFields .count) (noFields .values)
+
+-- ---- a line
+
+-- the line of a letter and fields
+unfoldable pub lineFrom : ℕ → Fields → Line
+lineFrom letter f =
+    let n = f .count in
+    let v = getD (f .values) in
+    cond (eqb letter 85 && eqb n 2) (Units (v 0 0) (v 1 0))
+    (cond (eqb letter 84 && eqb n 4) (Times (v 0 0) (v 1 0) (v 2 0) (v 3 0))
+    (cond (eqb letter 65 && eqb n 2) (Arrow (v 0 0) (v 1 0))
+    (cond (eqb letter 67 && eqb n 2) (Choice (v 0 0) (v 1 0))
+    NoLine)))
+
+-- the line from a to a newline at e; where there is none the line has none of the forms
+unfoldable pub lineAt : List ℕ → ℕ → ℕ → Line
+lineAt s a e = cond (ltb e (length s)) (lineOf (take (e - a) (drop a s))) NoLine
+
+-- ---- what was read so far
+
+-- the reading of these arrays and numbers
+abbrev pub gather : List ℕ → List ℕ → List ℕ → List ℕ → List ℕ → List ℕ → Counts → Reading
+gather units bcet wcet predecessors order types c =
+    record {
+      plan = record {
+        types = c .types;
+        units = units;
+        tasks = c .tasks;
+        bcet = bcet;
+        wcet = wcet;
+        predecessors = predecessors;
+      };
+      constraint = record { len = c .len; order = order; chosen = types };
+      kind = c .kind;
+      timed = c .timed;
+      chosen = c .chosen;
+    }
+
+abbrev pub noCounts : Counts
+noCounts = record { types = 0; tasks = 0; len = 0; kind = 0; timed = 0; chosen = 0 }
