@@ -1,0 +1,8 @@
+-- The laws that belong to no one function.
+pub mod Units
+pub mod Waits
+pub mod ByTask
+pub mod Reached
+pub mod Handed
+pub mod Answers
+pub mod Bounded

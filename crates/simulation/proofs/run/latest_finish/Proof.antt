@@ -1,0 +1,70 @@
+-- `simulation::run::latest_finish` meets its contract: what is passed and what is left make the whole. Assumes nothing.
+use mathlib.Core.Path.{_≡_, _∙_}
+use Prim.Native.Nat.{max, _<_, _^_}
+use native.Mathlib.Nat.{zero-max}
+use borrow.Author.Needs.{needs}
+use Rattle.task_set.specs.Sets.{size, width}
+use Rattle.simulation.specs.Steps.{latestOf}
+use Rattle.simulation.proofs.Waits.{latest-more, fewer-left, low, latest-end}
+use Rattle.simulation.proofs.run.latest_finish.Statement.{statement}
+use Rattle.simulation.proofs.run.latest_finish.Tie as tie
+
+abbrev Inv-loop : tie.InvT-loop
+Inv-loop finishes s latest₀ left₀ latest left = (left < 2 ^ width) × (max latest (latestOf finishes left) ≡ latestOf finishes s)
+
+abbrev μ-loop : tie.MeasureT-loop
+μ-loop finishes s latest₀ left₀ latest left = size left
+
+loop-holds : tie.Need-loop-holds Inv-loop μ-loop
+loop-holds c = (c .fits .s .fits, zero-max _)
+
+lowest-member-requires : tie.Need-lowest-member-requires Inv-loop μ-loop
+lowest-member-requires c κs = search needs
+
+cast-t : tie.Need-cast-t Inv-loop μ-loop
+cast-t c = search needs
+
+mul-later : tie.Need-mul-later Inv-loop μ-loop
+mul-later c = search needs
+
+element-copy-out-later : tie.Need-element-copy-out-later Inv-loop μ-loop
+element-copy-out-later c = rw (c .lowest-member .ensures) (low _ (c .before .before .loop .inv .0) (c .before .loop-test .taken))
+
+later-requires : tie.Need-later-requires Inv-loop μ-loop
+later-requires c κs = search needs
+
+removed-requires : tie.Need-removed-requires Inv-loop μ-loop
+removed-requires c κs = search needs
+
+loop-less : tie.Need-loop-less Inv-loop μ-loop
+loop-less c =
+    rw (c .removed .ensures, c .before .before .before .lowest-member .ensures)
+    (fewer-left _ (c .before .before .before .before .before .loop .inv .0) (c .before .before .before .before .loop-test .taken))
+
+loop-again : tie.Need-loop-again Inv-loop μ-loop
+loop-again c =
+    let l = c .before .before .before .before .before in (
+      search needs,
+      rw (c .removed .ensures, c .before .later .ensures, c .before .before .before .lowest-member .ensures)
+          (latest-more _ (l .loop .inv .0) (c .before .before .before .before .loop-test .taken) _ _ ∙ l .loop .inv .1),
+    )
+
+returns : tie.Need-returns Inv-loop μ-loop
+returns c = latest-end _ (c .loop-test .left) (c .before .loop .inv .1)
+
+pub latest-finish-spec : {M : Type 1} → statement M
+latest-finish-spec =
+    tie.close
+    (tie.spec
+    Inv-loop
+    μ-loop
+    loop-holds
+    lowest-member-requires
+    cast-t
+    mul-later
+    element-copy-out-later
+    later-requires
+    removed-requires
+    loop-less
+    loop-again
+    returns)

@@ -1,0 +1,64 @@
+-- The simulation and the bound (document 01, "Running rules"; "When an operation says no", Simulation and bound). Assumes nothing.
+use mathlib.Core.Bool.{Bool, cond, not}
+use mathlib.Core.List.{List}
+use Prim.Native.Nat.{ℕ}
+use lib.Dec.{eqb}
+use lib.ListN.{length, getD}
+use Rattle.task_set.specs.Bounded.{tabulate}
+use Rattle.plan.specs.declared.Plan.{Plan}
+use Rattle.plan.specs.declared.Constraint.{Constraint}
+use Rattle.plan.specs.declared.Verdict.{Verdict}
+use Rattle.plan.specs.Rules.{mostTasks, between}
+use Rattle.plan.specs.Refusals.{refused, accepted, unlessAt, firstRefusal, verdict}
+use Rattle.runs.specs.Running.{best, worst, orZero, ended, response}
+use Rattle.simulation.specs.declared.Simulation.{Simulation}
+
+-- "one time for each task, by task number"
+abbrev pub timeIn : List ℕ → ℕ → ℕ
+timeIn times t = getD times t 0
+
+-- 18: "a time outside best to worst of the chosen type"
+unfoldable pub outside : Plan → Constraint → List ℕ → ℕ → Bool
+outside p c times t = not (between (best p c t) (timeIn times t) (worst p c t))
+
+-- 17: "the count of times is not the number of tasks, place that count"; 18, "place the lowest such task"
+unfoldable pub timesVerdict : Plan → Constraint → List ℕ → Verdict
+timesVerdict p c times =
+    cond (not (eqb (length times) (p .tasks))) (refused 17 (length times))
+    (unlessAt 18 (p .tasks) (outside p c times)
+    accepted)
+
+-- "8 to 11. The simulation then has 17 .. 18"
+unfoldable pub simulationVerdict : Plan → Constraint → List ℕ → Verdict
+simulationVerdict p c times = firstRefusal (verdict p c) (timesVerdict p c times)
+
+-- "all starts, finishes and the response", of the run in which task t takes d t
+unfoldable pub ran : Plan → Constraint → (ℕ → ℕ) → Simulation
+ran p c d =
+    record {
+      number = 0;
+      place = 0;
+      response = response p c d;
+      starts = tabulate mostTasks (λ t. orZero (ended p c d .start t));
+      finishes = tabulate mostTasks (λ t. orZero (ended p c d .finish t));
+    }
+
+-- "Starts, finishes and response come back 0"
+unfoldable pub notRun : Verdict → Simulation
+notRun v =
+    record {
+      number = v .number;
+      place = v .place;
+      response = 0;
+      starts = tabulate mostTasks (λ t. 0);
+      finishes = tabulate mostTasks (λ t. 0);
+    }
+
+unfoldable pub simulated : Plan → Constraint → List ℕ → Simulation
+simulated p c times =
+    let v = simulationVerdict p c times in
+    cond (eqb (v .number) 0) (ran p c (timeIn times)) (notRun v)
+
+-- "The bound is the simulation with the worst times of the chosen types": its response
+unfoldable pub worstCase : Plan → Constraint → Simulation
+worstCase p c = cond (eqb (verdict p c .number) 0) (ran p c (worst p c)) (notRun (verdict p c))

@@ -1,0 +1,96 @@
+// The simulation of a plan under a constraint, and the bound (document 01, "Running rules").
+ghost use mathlib.Core.Path.{_≡_};
+ghost use Rattle.plan.specs.Refusals.{refused};
+ghost use Rattle.simulation.specs.Simulated.{notRun, simulated, worstCase};
+use plan::Constraint;
+use plan::Plan;
+use run::run;
+use times::chosen_times;
+use times::first_outside;
+
+mod run;
+mod times;
+
+// The start and the finish of each task, by task number, and the response; zeros where refused.
+pub struct Simulation {
+    pub number: u32,
+    pub place: usize,
+    pub response: u32,
+    pub starts: [u32; plan::MOST_TASKS],
+    pub finishes: [u32; plan::MOST_TASKS],
+}
+
+fn not_run(number: u32, place: usize) -> Simulation
+    ensures { λ r. ⌜ r ≡ notRun (refused number place) ⌝ }
+{
+    Simulation {
+        number,
+        place,
+        response: 0,
+        starts: [0; plan::MOST_TASKS],
+        finishes: [0; plan::MOST_TASKS],
+    }
+}
+
+// The run with the given times, one for each task; or the first of 8 to 11, 17 and 18 that refuses it.
+pub fn simulate(p: Plan, c: Constraint, times: &[u32]) -> Simulation
+    ensures { λ r. ⌜ r ≡ simulated p c (now (times .entry)) ⌝ }
+{
+    let types = p.types;
+    let tasks = p.tasks;
+    let len = c.len;
+    let v = plan::check_parts(
+        types,
+        &p.units,
+        tasks,
+        &p.bcet,
+        &p.wcet,
+        &p.predecessors,
+        len,
+        &c.order,
+        &c.chosen,
+    );
+    if v.number != 0 {
+        return not_run(v.number, v.place);
+    }
+    if times.len() != tasks {
+        return not_run(17, times.len());
+    }
+    let outside = first_outside(&p.bcet, &p.wcet, &c.order, &c.chosen, times, tasks);
+    if outside < tasks {
+        return not_run(18, outside);
+    }
+    run(&p.units, &p.predecessors, tasks, &c.order, &c.chosen, times)
+}
+
+// The run with the worst times of the chosen types: its response is the bound.
+pub fn bound(p: Plan, c: Constraint) -> Simulation
+    ensures { λ r. ⌜ r ≡ worstCase p c ⌝ }
+{
+    let types = p.types;
+    let tasks = p.tasks;
+    let len = c.len;
+    let v = plan::check_parts(
+        types,
+        &p.units,
+        tasks,
+        &p.bcet,
+        &p.wcet,
+        &p.predecessors,
+        len,
+        &c.order,
+        &c.chosen,
+    );
+    if v.number != 0 {
+        return not_run(v.number, v.place);
+    }
+    let worst = chosen_times(&p.wcet, &c.order, &c.chosen, tasks);
+    run(
+        &p.units,
+        &p.predecessors,
+        tasks,
+        &c.order,
+        &c.chosen,
+        &worst,
+    )
+}

@@ -1,0 +1,91 @@
+// The run of a plan and a constraint that the check takes, position by position: its cost does not grow with the times.
+ghost use mathlib.Core.Path.{_≡_};
+ghost use Prim.Native.Nat.{_<_, _≤_, max};
+ghost use Rattle.plan.specs.Rules.{mostTypes, mostUnits};
+ghost use Rattle.simulation.specs.Steps.{FreeFirst, RunOf, Runnable, latestOf};
+use crate::Simulation;
+use plan::MOST_TASKS;
+use plan::MOST_TYPES;
+
+// Room for the most units of each of the most types.
+const MOST_PER_TYPE: usize = plan::MOST_UNITS as usize;
+
+const ALL_UNITS: usize = MOST_TYPES * MOST_PER_TYPE;
+
+fn later(a: u32, b: u32) -> u32
+    ensures { λ r. ⌜ r ≡ max a b ⌝ }
+{
+    if a < b { b } else { a }
+}
+
+// The latest finish of the tasks of a set, and 0 for the empty set.
+fn latest_finish(finishes: &[u32; MOST_TASKS], s: u64) -> u32
+    ensures { λ r. ⌜ r ≡ latestOf (now (finishes .entry)) s ⌝ }
+{
+    let mut latest = 0;
+    let mut left = s;
+    while left != 0 {
+        let t = task_set::lowest_member(left) as usize;
+        latest = later(latest, finishes[t]);
+        left = task_set::removed(left, t);
+    }
+    latest
+}
+
+// Where `free` keeps the unit of a type that is free first: the lowest of equals.
+fn free_first(free: &[u32; ALL_UNITS], ty: usize, units: u32) -> usize
+    requires { ⌜ (ty < mostTypes) × ((1 ≤ units) × (units ≤ mostUnits)) ⌝ }
+    ensures { λ r. ⌜ FreeFirst (now (free .entry)) ty units r ⌝ }
+{
+    let base = ty * MOST_PER_TYPE;
+    let mut best = base;
+    let mut u = 1;
+    while u < units as usize {
+        if free[base + u] < free[best] {
+            best = base + u;
+        }
+        u += 1;
+    }
+    best
+}
+
+// A position starts no earlier than the position before it, the finishes of its predecessors, and the first
+// instant at which a unit of its type is free; `free` keeps the instant from which each unit is free.
+pub fn run<'a>(
+    units: &'a [u32; MOST_TYPES],
+    predecessors: &'a [u64; MOST_TASKS],
+    tasks: usize,
+    order: &'a [usize; MOST_TASKS],
+    chosen: &'a [usize; MOST_TASKS],
+    times: &'a [u32],
+) -> Simulation
+    requires { ⌜ Runnable (now units) (now predecessors) tasks (now order) (now chosen) (now times) ⌝ }
+    ensures { λ r. ⌜ RunOf (now (units .entry)) (now (predecessors .entry)) tasks (now (order .entry)) (now (chosen .entry)) (now (times .entry)) r ⌝ }
+{
+    let mut starts = [0; MOST_TASKS];
+    let mut finishes = [0; MOST_TASKS];
+    let mut free = [0; ALL_UNITS];
+    let mut last = 0;
+    let mut response = 0;
+    let mut k = 0;
+    while k < tasks {
+        let t = order[k];
+        let ty = chosen[k];
+        let unit = free_first(&free, ty, units[ty]);
+        let waited = latest_finish(&finishes, plan::predecessors_of(predecessors, t));
+        last = later(later(last, waited), free[unit]);
+        let finish = last + times[t];
+        starts[t] = last;
+        finishes[t] = finish;
+        free[unit] = finish;
+        response = later(response, finish);
+        k += 1;
+    }
+    Simulation {
+        number: 0,
+        place: 0,
+        response,
+        starts,
+        finishes,
+    }
+}
