@@ -1,0 +1,8 @@
+-- The laws that belong to no one function.
+pub mod Digits
+pub mod Stores
+pub mod Text
+pub mod Outcomes
+pub mod Rows
+pub mod Ran
+pub mod Longest

@@ -1,0 +1,35 @@
+-- `timetable::decimal::decimal_length` meets its contract: the digits counted and those of what is left are one more than all. Assumes nothing.
+use mathlib.Core.Path.{_≡_}
+use Prim.Native.Nat.{_+_, _≤_}
+use native.Mathlib.Omega.{arith}
+use lib.ListN.{length}
+use borrow.Author.Needs.{needs}
+use Rattle.timetable.specs.Decimal.{decimal}
+use Rattle.timetable.proofs.Digits.{decimal-longest, length-one, length-more}
+use Rattle.timetable.proofs.decimal.decimal_length.Statement.{statement}
+use Rattle.timetable.proofs.decimal.decimal_length.Tie as tie
+
+abbrev Inv-loop : tie.InvT-loop
+Inv-loop x left₀ n₀ left n = (left ≤ x) × (n + length (decimal left) ≡ 1 + length (decimal x))
+
+abbrev μ-loop : tie.MeasureT-loop
+μ-loop x left₀ n₀ left n = left
+
+loop-holds : tie.Need-loop-holds Inv-loop μ-loop
+loop-holds c = search needs
+
+add-n : tie.Need-add-n Inv-loop μ-loop
+add-n c = omega (arith, decimal-longest (c .before .before .args .x))
+
+loop-less : tie.Need-loop-less Inv-loop μ-loop
+loop-less c = search needs
+
+loop-again : tie.Need-loop-again Inv-loop μ-loop
+loop-again c = omega (arith, length-more (c .before .loop .left) (c .loop-test .taken) (omega arith))
+
+returns : tie.Need-returns Inv-loop μ-loop
+returns c = omega (arith, length-one (c .before .loop .left) (c .loop-test .left), decimal-longest (c .before .before .args .x))
+
+pub decimal-length-spec : {M : Type 1} → statement M
+decimal-length-spec =
+    tie.close (tie.spec Inv-loop μ-loop loop-holds add-n loop-less loop-again returns)

@@ -1,0 +1,28 @@
+-- `timetable::lines::instant_of` meets its contract. Assumes nothing.
+use mathlib.Core.Path.{_∙_}
+use borrow.Author.Needs.{needs}
+use borrow.Author.Tests.{le-ltb, lt-ltb}
+use Rattle.timetable.specs.Steps.{instantOf}
+use Rattle.timetable.proofs.lines.instant_of.Statement.{statement}
+use Rattle.timetable.proofs.lines.instant_of.Tie as tie
+
+returns : tie.Need-returns
+unfolding instantOf
+returns c = simp (le-ltb _ _ (c .if1 .taken))
+
+mul-wide : tie.Need-mul-wide
+mul-wide c = search needs
+
+element-copy-out-wide : tie.Need-element-copy-out-wide
+element-copy-out-wide c = search needs
+
+wide-requires : tie.Need-wide-requires
+wide-requires c κs = search needs
+
+returns-2 : tie.Need-returns-2
+unfolding instantOf
+returns-2 c = c .wide .ensures ∙ simp (lt-ltb _ _ (c .before .before .if1 .left))
+
+pub instant-of-spec : {M : Type 1} → statement M
+instant-of-spec =
+    tie.close (tie.spec returns mul-wide element-copy-out-wide wide-requires returns-2)

@@ -1,0 +1,31 @@
+-- `timetable::lines::put_field` meets its contract. Assumes nothing.
+use mathlib.Core.List.{[], _∷_}
+use native.Mathlib.Omega.{arith}
+use lib.ListN.{length-set}
+use Rattle.timetable.specs.Steps.{Room}
+use Rattle.timetable.proofs.Stores.{put-byte, put-then, put-length, room-first, room-then}
+use Rattle.timetable.proofs.lines.put_field.Statement.{statement}
+use Rattle.timetable.proofs.lines.put_field.Tie as tie
+
+-- the byte after the number is in the buffer
+room : (c : tie.After-slice-known2) → let r = c .before .before .put-decimal in Room (r .last .0) (r .result) (c .before .before .before .before .before .args .mark ∷ [])
+room c = room-then (c .before .before .put-decimal .ensures) _ (c .before .before .before .before .before .pre)
+
+put-decimal-requires : tie.Need-put-decimal-requires
+put-decimal-requires c κs = room-first _ (c .before .before .pre)
+
+slice-write-buffer : tie.Need-slice-write-buffer
+slice-write-buffer c = omega (arith, room c)
+
+add-result : tie.Need-add-result
+add-result c = omega (arith, room c, put-length (c .before .before .put-decimal .ensures))
+
+same-length : tie.Need-same-length
+same-length c = simp length-set (put-length (c .before .before .put-decimal .ensures))
+
+returns : tie.Need-returns
+returns c = put-then (c .before .before .put-decimal .ensures) (put-byte _ _ _)
+
+pub put-field-spec : {M : Type 1} → statement M
+put-field-spec =
+    tie.close (tie.spec put-decimal-requires slice-write-buffer add-result same-length returns)

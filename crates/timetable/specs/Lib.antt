@@ -1,0 +1,4 @@
+-- The definitions that the contracts of `timetable` cite.
+pub mod Decimal
+pub mod Table
+pub mod Steps
