@@ -1,0 +1,61 @@
+-- The state that a run begins with. Assumes nothing.
+use mathlib.Core.Path.{_≡_, refl, sym, ap, _∙_}
+use mathlib.Core.Bool.{Bool, true, false, cond}
+use mathlib.Core.Option.{none, some}
+use Prim.Native.Nat.{ℕ, _≤_, zero-le}
+use native.Mathlib.Omega.{arith}
+use borrow.Author.Tests.{eq-eqb, ne-eqb, ltb-true, ltb-false}
+use lib.Dec.{eqb, ltb}
+use lib.ListN.{getD, length, replicate, length-replicate, getD-replicate, List·getD-eq-default}
+use lib.Pow.{pow-pos}
+use Rattle.task_set.specs.Bounded.{any}
+use Rattle.task_set.specs.Sets.{width, has}
+use Rattle.task_set.proofs.Truth.{by-test, clash}
+use Rattle.task_set.proofs.Members.{has-none}
+use Rattle.plan.specs.declared.Plan.{Plan}
+use Rattle.plan.specs.declared.Constraint.{Constraint}
+use Rattle.plan.specs.declared.Verdict.{Verdict}
+use Rattle.plan.specs.Rules.{mostTasks}
+use Rattle.plan.specs.Refusals.{verdict}
+use Rattle.runs.specs.Running.{Notes, entries, dispatch, blank, opening}
+use Rattle.runs.proofs.Closed.{notes-ext}
+use Rattle.live.specs.declared.State.{State}
+use Rattle.live.specs.declared.Ticked.{Ticked}
+use Rattle.live.specs.States.{isStarted, notesOf, noState}
+use Rattle.live.specs.Ticks.{moved, stayed, started}
+use Rattle.live.specs.Steps.{stateFrom, Tidy}
+
+zeros : (t : ℕ) → _≡_ {A = ℕ} (getD (replicate mostTasks 0) t 0) 0
+zeros t =
+    by-test (ltb t mostTasks) (λ e. getD-replicate {A = ℕ} mostTasks t 0 0 (ltb-true t mostTasks e))
+    (λ e. let l : length (replicate {A = ℕ} mostTasks 0) ≤ t = omega (arith, ltb-false t mostTasks e) in List·getD-eq-default (replicate {A = ℕ} mostTasks 0) 0 l)
+
+module _ (p : Plan) (c : Constraint) where
+  abbrev pub fresh : State
+  fresh = stateFrom p c 0 0 0 (replicate mostTasks 0) (replicate mostTasks 0)
+
+  pub fresh-tidy : verdict p c .number ≡ 0 → Tidy fresh
+  fresh-tidy ok =
+      record {
+        checked = ok;
+        few = zero-le;
+        finished-started = λ t e. absurd (clash e (has-none t));
+        starts-zero = λ t e. zeros t;
+        finishes-zero = λ t e. zeros t;
+        finished-small = pow-pos width;
+        starts-long = length-replicate {A = ℕ} mostTasks 0;
+        finishes-long = length-replicate {A = ℕ} mostTasks 0;
+      }
+
+  fresh-notes : notesOf fresh ≡ blank
+  unfolding isStarted any
+  fresh-notes = notes-ext refl (λ t. refl) (λ t. rw (has-none t) refl)
+
+  -- start, from the check's answer
+  pub start-refused : {v : Verdict} → v ≡ verdict p c → (v .number ≡ 0 → ⊥) → stayed v noState ≡ started p c
+  unfolding started
+  start-refused e f = rw (← e, ne-eqb _ 0 f) refl
+
+  pub start-walked : verdict p c .number ≡ 0 → moved p c (notesOf fresh) (dispatch p c (entries c) (notesOf fresh)) ≡ started p c
+  unfolding started opening
+  start-walked ok = rw (eq-eqb (verdict p c .number) 0 ok) (ap (λ (n : Notes). moved p c n (dispatch p c (entries c) n)) fresh-notes)

@@ -1,0 +1,85 @@
+-- A tidy state is the state that stands for its notes. Assumes nothing.
+use mathlib.Core.Path.{_≡_, refl, sym, ap, _∙_, fun-ext}
+use mathlib.Core.Bool.{Bool, true, false, cond}
+use mathlib.Core.List.{List}
+use mathlib.Core.Option.{none, some}
+use Prim.Native.Nat.{ℕ, _<_}
+use native.Mathlib.Nat.{le-refl, lt-of-lt-of-le}
+use native.Mathlib.Omega.{arith}
+use borrow.Author.Tests.{lt-ltb, ne-eqb}
+use lib.Dec.{eqb}
+use lib.ListN.{getD, length}
+use lib.Seq.{ext-getD}
+use Rattle.task_set.specs.Bounded.{all, any, count, tabulate}
+use Rattle.task_set.specs.Sets.{width, has, setOf}
+use Rattle.task_set.proofs.Bounded.{any-none, count-cong}
+use Rattle.task_set.proofs.Cover.{counted}
+use Rattle.task_set.proofs.Members.{has-setOf, setOf-small, set-ext}
+use Rattle.task_set.proofs.Tables.{length-tabulate, getD-tabulate}
+use Rattle.plan.specs.Rules.{mostTasks}
+use Rattle.plan.specs.Refusals.{entryAt}
+use Rattle.plan.proofs.Accepted.{Accepted, accepted}
+use Rattle.dispatch_theory.proofs.Reorder.{count-upto}
+use Rattle.runs.specs.Running.{over, given, orZero, hasStarted, hasFinished}
+use Rattle.live.specs.declared.State.{State}
+use Rattle.live.specs.States.{isStarted, notesOf, stateOf}
+use Rattle.live.specs.Steps.{Tidy}
+
+-- what is noted once it is there
+pub given-cond : (b : Bool) (x : ℕ) → given (cond b (some x) none) ≡ b
+given-cond true x = refl
+given-cond false x = refl
+
+-- what is not there reads as the 0 that stands in its place
+or-zero : (b : Bool) (x : ℕ) → (b ≡ false → x ≡ 0) → orZero (cond b (some x) none) ≡ x
+or-zero true x h = refl
+or-zero false x h = sym (h refl)
+
+module _ (s : State) where
+  pub started-notes : (t : ℕ) → hasStarted (notesOf s) t ≡ isStarted s t
+  started-notes t = given-cond (isStarted s t) (getD (s .starts) t 0)
+
+  pub finished-notes : (t : ℕ) → hasFinished (notesOf s) t ≡ has (s .finished) t
+  finished-notes t = given-cond (has (s .finished) t) (getD (s .finishes) t 0)
+
+  pub over-notes : over (s .plan) (notesOf s) ≡ all (s .plan .tasks) (has (s .finished))
+  unfolding over
+  over-notes = ap (all (s .plan .tasks)) (fun-ext finished-notes)
+
+-- a table of values that a list has is the list
+table-list : (f : ℕ → ℕ) (l : List ℕ) → length l ≡ mostTasks → ((t : ℕ) → f t ≡ getD l t 0) → tabulate mostTasks f ≡ l
+table-list f l e h =
+    ext-getD 0 (tabulate mostTasks f) l (length-tabulate mostTasks f ∙ sym e)
+    (λ i m. getD-tabulate mostTasks f i 0 (rw (length-tabulate mostTasks f) at m) ∙ h i)
+
+module _ (s : State) (y : Tidy s) where
+  a : Accepted (s .plan) (s .constraint)
+  a = accepted (s .plan) (s .constraint) (y .checked)
+
+  -- no task stands twice in the order
+  new : (i : ℕ) → i < s .plan .tasks → any i (λ j. eqb (entryAt (s .constraint .order) j) (entryAt (s .constraint .order) i)) ≡ false
+  new i l = any-none i _ (λ j m. ne-eqb _ _ (λ e. omega (arith, a .once j i (omega arith) l e)))
+
+  -- as many tasks have started as the state counts
+  started-count : count width (hasStarted (notesOf s)) ≡ s .started
+  unfolding isStarted
+  started-count =
+      count-cong width (hasStarted (notesOf s)) (isStarted s) (λ t l. started-notes s t)
+      ∙ count-upto (s .plan .tasks) width (isStarted s) (a .few-tasks)
+      (λ t l m. any-none (s .started) _ (λ j k. ne-eqb (entryAt (s .constraint .order) j) t (λ e. omega (arith, a .task j (lt-of-lt-of-le k (y .few))))))
+      ∙ counted (s .plan .tasks) (entryAt (s .constraint .order)) (a .task) new (s .started) (y .few)
+
+  finished-set : setOf width (hasFinished (notesOf s)) ≡ s .finished
+  finished-set =
+      set-ext width _ (s .finished) (setOf-small width _ (le-refl width)) (y .finished-small)
+      (λ t l. has-setOf width _ t (le-refl width) ∙ rw (lt-ltb t width l) (finished-notes s t))
+
+  pub state-back : stateOf (s .plan) (s .constraint) (notesOf s) ≡ s
+  unfolding stateOf
+  state-back =
+      rw (
+        started-count,
+        finished-set,
+        table-list (λ t. orZero (notesOf s .start t)) (s .starts) (y .starts-long) (λ t. or-zero (isStarted s t) (getD (s .starts) t 0) (y .starts-zero t)),
+        table-list (λ t. orZero (notesOf s .finish t)) (s .finishes) (y .finishes-long) (λ t. or-zero (has (s .finished) t) (getD (s .finishes) t 0) (y .finishes-zero t)),
+      ) refl

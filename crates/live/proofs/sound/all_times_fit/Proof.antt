@@ -1,0 +1,80 @@
+-- `live::sound::all_times_fit` meets its contract: `ok` tells of the tasks passed. Assumes nothing.
+use mathlib.Core.Path.{refl, sym, ap₂, _∙_}
+use mathlib.Core.Bool.{_&&_}
+use Prim.Native.Nat.{ℕ, _-_}
+use borrow.Author.Needs.{needs}
+use Rattle.task_set.specs.Bounded.{all}
+use Rattle.task_set.proofs.Bounded.{all-next}
+use Rattle.task_set.proofs.Upto.{Upto, upto-none, upto-more, upto-end}
+use Rattle.plan.specs.Rules.{mostTasks}
+use Rattle.live.specs.Steps.{allTimesFit}
+use Rattle.live.proofs.sound.all_times_fit.Statement.{statement}
+use Rattle.live.proofs.sound.all_times_fit.Tie as tie
+
+abbrev Inv-loop : tie.InvT-loop
+Inv-loop starts finishes begun finished instant ok₀ t₀ ok t = Upto (λ (n : ℕ). all n (allTimesFit starts finishes begun finished instant)) mostTasks t ok
+
+abbrev μ-loop : tie.MeasureT-loop
+μ-loop starts finishes begun finished instant ok₀ t₀ ok t = mostTasks - t
+
+loop-holds : tie.Need-loop-holds Inv-loop μ-loop
+unfolding all
+loop-holds c = upto-none refl
+
+contains-requires : tie.Need-contains-requires Inv-loop μ-loop
+contains-requires c κs = search needs
+
+contains-requires-2 : tie.Need-contains-requires-2 Inv-loop μ-loop
+contains-requires-2 c κs = search needs
+
+mul-times-fit : tie.Need-mul-times-fit Inv-loop μ-loop
+mul-times-fit c = search needs
+
+element-copy-out-times-fit : tie.Need-element-copy-out-times-fit Inv-loop μ-loop
+element-copy-out-times-fit c = search needs
+
+mul-times-fit-2 : tie.Need-mul-times-fit-2 Inv-loop μ-loop
+mul-times-fit-2 c = search needs
+
+element-copy-out-times-fit-2 : tie.Need-element-copy-out-times-fit-2 Inv-loop μ-loop
+element-copy-out-times-fit-2 c = search needs
+
+times-fit-requires : tie.Need-times-fit-requires Inv-loop μ-loop
+times-fit-requires c κs = search needs
+
+add-t : tie.Need-add-t Inv-loop μ-loop
+add-t c = search needs
+
+loop-less : tie.Need-loop-less Inv-loop μ-loop
+loop-less c = search needs
+
+loop-again : tie.Need-loop-again Inv-loop μ-loop
+unfolding allTimesFit
+loop-again c =
+    let l = c .before .before .before .before .before .before in
+    upto-more (c .before .before .before .before .before .loop-test .taken)
+    (ap₂ _&&_ (l .loop .inv .is)
+    (rw (c .before .before .before .before .contains .ensures, c .before .before .before .contains2 .ensures) at (c .times-fit .ensures))
+    ∙ sym (all-next _ _))
+
+returns : tie.Need-returns Inv-loop μ-loop
+returns c = upto-end (c .before .loop .inv) (c .loop-test .left)
+
+pub all-times-fit-spec : {M : Type 1} → statement M
+all-times-fit-spec =
+    tie.close
+    (tie.spec
+    Inv-loop
+    μ-loop
+    loop-holds
+    contains-requires
+    contains-requires-2
+    mul-times-fit
+    element-copy-out-times-fit
+    mul-times-fit-2
+    element-copy-out-times-fit-2
+    times-fit-requires
+    add-t
+    loop-less
+    loop-again
+    returns)

@@ -1,0 +1,113 @@
+-- What inner functions of the live run compute. No promise of a public function cites it. Assumes nothing.
+use mathlib.Core.Path.{_≡_}
+use mathlib.Core.Bool.{Bool, true, false, cond, _&&_, _||_}
+use mathlib.Core.List.{List}
+use Prim.Native.Nat.{ℕ, zero, suc, _+_, _-_, _^_, _≤_, _<_}
+use lib.Bits.{bitAnd, bitOr}
+use lib.Dec.{eqb, leb, ltb}
+use lib.ListN.{getD, length, set}
+use Rattle.task_set.specs.Bounded.{any, implies, tabulate}
+use Rattle.task_set.specs.Sets.{width, has, insert, setOf, subset, size, without}
+use Rattle.plan.specs.declared.Plan.{Plan}
+use Rattle.plan.specs.declared.Constraint.{Constraint}
+use Rattle.plan.specs.Rules.{mostTypes, mostTasks, timeOf, predecessorsOf}
+use Rattle.plan.specs.Refusals.{entryAt, verdict}
+use Rattle.live.specs.declared.State.{State}
+use Rattle.live.specs.declared.walk.Walked.{Walked}
+use Rattle.live.specs.States.{isStarted}
+
+-- the tasks at the first n positions of the order that pass q
+unfoldable pub tasksAt : List ℕ → ℕ → (ℕ → Bool) → ℕ
+tasksAt order n q = setOf width (λ t. any n (λ j. q j && eqb (entryAt order j) t))
+
+-- the tasks at the first n positions
+unfoldable pub firstTasks : List ℕ → ℕ → ℕ
+firstTasks order n = setOf width (λ t. any n (λ j. eqb (entryAt order j) t))
+
+-- those whose chosen type is k
+unfoldable pub typeUsers : List ℕ → List ℕ → ℕ → ℕ → ℕ
+typeUsers order chosen n k = tasksAt order n (λ j. eqb (entryAt chosen j) k)
+
+-- those whose start and time, best or worst, come to the instant i at the latest
+unfoldable pub reached : List ℕ → List ℕ → List ℕ → List ℕ → ℕ → ℕ → ℕ
+reached times starts order chosen n i =
+    tasksAt order n (λ j. leb (getD starts (entryAt order j) 0 + timeOf times (entryAt order j) (entryAt chosen j)) i)
+
+-- the start and the finish of a task that has started or not, finished or not, at an instant: the clauses of 12 about them
+unfoldable pub timesFit : Bool → Bool → ℕ → ℕ → ℕ → Bool
+timesFit begun done start finish instant =
+    implies done begun
+    && (implies begun (leb start instant)
+    && (implies done (ltb start finish && leb finish instant)
+    && ((begun || eqb start 0) && (done || eqb finish 0))))
+
+-- the same of task t in the arrays and sets of a state
+unfoldable pub allTimesFit : List ℕ → List ℕ → ℕ → ℕ → ℕ → ℕ → Bool
+allTimesFit starts finishes begun finished instant t =
+    timesFit (has begun t) (has finished t) (getD starts t 0) (getD finishes t 0) instant
+
+-- no more of the running tasks use type k than it has units
+unfoldable pub enoughFor : List ℕ → List ℕ → ℕ → ℕ → Bool
+enoughFor units users running k = leb (size (bitAnd (getD users k 0) running)) (getD units k 0)
+
+-- a state that is handed over in parts
+abbrev pub stateFrom : Plan → Constraint → ℕ → ℕ → ℕ → List ℕ → List ℕ → State
+stateFrom p c instant started finished starts finishes =
+    record { plan = p; constraint = c; instant = instant; started = started; finished = finished; starts = starts; finishes = finishes }
+
+-- ---- the walk, on sets and arrays
+
+-- the predecessors are finished, and fewer running tasks use the type than it has units
+unfoldable pub mayGo : ℕ → ℕ → ℕ → ℕ → ℕ → Bool
+mayGo predecessors finished users running units = subset predecessors finished && ltb (size (bitAnd users running)) units
+
+-- the task at the next position starts at the instant
+abbrev pub gone : List ℕ → ℕ → Walked → Walked
+gone order instant w =
+    let t = entryAt order (w .begun) in
+    record { begun = w .begun + 1; running = insert (w .running) t; fresh = insert (w .fresh) t; starts = set (w .starts) t instant }
+
+-- the walk with so many positions left
+unfoldable pub walkFrom : List ℕ → List ℕ → List ℕ → List ℕ → List ℕ → ℕ → ℕ → ℕ → Walked → Walked
+walkFrom units predecessors order chosen users instant finished zero w = w
+walkFrom units predecessors order chosen users instant finished (suc left) w =
+    let t = entryAt order (w .begun) in
+    let k = entryAt chosen (w .begun) in
+    let further = walkFrom units predecessors order chosen users instant finished left (gone order instant w) in
+    cond (mayGo (predecessorsOf predecessors t) finished (getD users k 0) (w .running) (getD units k 0)) further w
+
+-- the walk of a state from where it stands
+unfoldable pub walkOf : State → Walked
+walkOf s =
+    walkFrom (s .plan .units) (s .plan .predecessors) (s .constraint .order) (s .constraint .chosen)
+    (tabulate mostTypes (typeUsers (s .constraint .order) (s .constraint .chosen) (s .constraint .len))) (s .instant) (s .finished)
+    (s .constraint .len - s .started)
+    (record {
+      begun = s .started;
+      running = without (firstTasks (s .constraint .order) (s .started)) (s .finished);
+      fresh = 0;
+      starts = s .starts;
+    })
+
+-- ---- the reported tasks
+
+-- the finish of task t, once the reported tasks have the instant as theirs
+unfoldable pub stampAt : List ℕ → ℕ → ℕ → ℕ → ℕ
+stampAt finishes report instant t = cond (has report t) instant (getD finishes t 0)
+
+-- the state at the next instant, with the reported tasks finished
+abbrev pub reportedState : State → ℕ → State
+reportedState s report =
+    stateFrom (s .plan) (s .constraint) (s .instant + 1) (s .started) (bitOr (s .finished) report) (s .starts)
+    (tabulate mostTasks (stampAt (s .finishes) report (s .instant + 1)))
+
+-- what the check and the tests of soundness leave for the walk to rely on
+pub record Tidy (s : State) : Type 0 where
+  pub checked : verdict (s .plan) (s .constraint) .number ≡ 0
+  pub few : s .started ≤ s .plan .tasks
+  pub finished-started : (t : ℕ) → has (s .finished) t ≡ true → isStarted s t ≡ true
+  pub starts-zero : (t : ℕ) → isStarted s t ≡ false → getD (s .starts) t 0 ≡ 0
+  pub finishes-zero : (t : ℕ) → has (s .finished) t ≡ false → getD (s .finishes) t 0 ≡ 0
+  pub finished-small : s .finished < 2 ^ width
+  pub starts-long : length (s .starts) ≡ mostTasks
+  pub finishes-long : length (s .finishes) ≡ mostTasks

@@ -1,0 +1,96 @@
+// The live run: start, tick and replay (document 01, "Running rules", Start, Tick).
+ghost use mathlib.Core.Path.{_≡_};
+ghost use Rattle.live.specs.States.{noState};
+ghost use Rattle.live.specs.Ticks.{started, ticked};
+
+mod list;
+mod sets;
+mod sound;
+mod step;
+mod verdicts;
+mod walk;
+
+pub use list::Replayed;
+pub use list::replay;
+use plan::Constraint;
+use plan::Plan;
+
+// A run state: the instant, how many tasks of the order have started, the set of finished tasks, and each task's start
+// and finish instant, by task number, 0 until it has one.
+pub struct State {
+    pub plan: Plan,
+    pub constraint: Constraint,
+    pub instant: u32,
+    pub started: usize,
+    pub finished: u64,
+    pub starts: [u32; plan::MOST_TASKS],
+    pub finishes: [u32; plan::MOST_TASKS],
+}
+
+// What start and a tick answer: a refusal's number and place, or 0 and 0; the set of tasks just started; the state.
+pub struct Ticked {
+    pub number: u32,
+    pub place: usize,
+    pub started: u64,
+    pub state: State,
+}
+
+fn no_state() -> State
+    ensures { λ r. ⌜ r ≡ noState ⌝ }
+{
+    let plan = plan::no_plan();
+    let constraint = plan::no_constraint();
+    State {
+        plan,
+        constraint,
+        instant: 0,
+        started: 0,
+        finished: 0,
+        starts: [0; plan::MOST_TASKS],
+        finishes: [0; plan::MOST_TASKS],
+    }
+}
+
+// The state after the walk of instant 0 and the tasks that it started; or the check's refusal with an all-zero state.
+pub fn start(p: Plan, c: Constraint) -> Ticked
+    ensures { λ r. ⌜ r ≡ started p c ⌝ }
+{
+    let v = plan::check(p, c);
+    if v.number != 0 {
+        let state = no_state();
+        return Ticked {
+            number: v.number,
+            place: v.place,
+            started: 0,
+            state,
+        };
+    }
+    walk::walk_on(State {
+        plan: p,
+        constraint: c,
+        instant: 0,
+        started: 0,
+        finished: 0,
+        starts: [0; plan::MOST_TASKS],
+        finishes: [0; plan::MOST_TASKS],
+    })
+}
+
+impl State {
+    // The state one instant on, with the reported tasks finished, and the tasks that then started; or a refusal, with the
+    // state as it was.
+    pub fn tick(self, report: u64) -> Ticked
+        ensures { λ r. ⌜ r ≡ ticked self report ⌝ }
+    {
+        let v = verdicts::tick_verdict(self, report);
+        if v.number != 0 {
+            return Ticked {
+                number: v.number,
+                place: v.place,
+                started: 0,
+                state: self,
+            };
+        }
+        walk::walk_on(step::reported(self, report))
+    }
+}

@@ -1,0 +1,112 @@
+// Whether a run state is sound (document 01, refusal 12).
+ghost use mathlib.Core.Path.{_≡_};
+ghost use Prim.Native.Nat.{_≤_};
+ghost use Rattle.task_set.specs.Bounded.{all};
+ghost use Rattle.task_set.specs.Sets.{has, width};
+ghost use Rattle.plan.specs.Rules.{mostTasks, mostTypes};
+ghost use Rattle.live.specs.Soundness.{isSound};
+ghost use Rattle.live.specs.Steps.{allTimesFit, enoughFor, timesFit};
+use crate::State;
+use crate::sets::first_tasks;
+use crate::sets::reached_by;
+use crate::sets::type_users;
+use plan::MOST_TASKS;
+use plan::MOST_TYPES;
+
+// The greatest instant of a sound state: every task one after the other, each with the longest time.
+const LAST_INSTANT: u32 = MOST_TASKS as u32 * plan::LONGEST_TIME;
+
+// The clauses about the start and the finish of a task.
+fn times_fit(begun: bool, done: bool, start: u32, finish: u32, instant: u32) -> bool
+    ensures { λ r. ⌜ r ≡ timesFit begun done start finish instant ⌝ }
+{
+    let started = !begun | (start <= instant);
+    let ended = !done | ((start < finish) & (finish <= instant));
+    (!done | begun) & (started & (ended & ((begun | (start == 0)) & (done | (finish == 0)))))
+}
+
+fn all_times_fit<'a>(
+    starts: &'a [u32; MOST_TASKS],
+    finishes: &'a [u32; MOST_TASKS],
+    begun: u64,
+    finished: u64,
+    instant: u32,
+) -> bool
+    ensures { λ r. ⌜ r ≡ all width (allTimesFit (now (starts .entry)) (now (finishes .entry)) begun finished instant) ⌝ }
+{
+    let mut ok = true;
+    let mut t = 0;
+    while t < MOST_TASKS {
+        let b = task_set::contains(begun, t);
+        let d = task_set::contains(finished, t);
+        ok = ok & times_fit(b, d, starts[t], finishes[t], instant);
+        t += 1;
+    }
+    ok
+}
+
+// No type has more running tasks than units.
+fn enough_units<'a>(
+    units: &'a [u32; MOST_TYPES],
+    users: &'a [u64; MOST_TYPES],
+    running: u64,
+) -> bool
+    ensures { λ r. ⌜ r ≡ all mostTypes (enoughFor (now (units .entry)) (now (users .entry)) running) ⌝ }
+{
+    let mut ok = true;
+    let mut k = 0;
+    while k < MOST_TYPES {
+        ok = ok & (task_set::member_count(users[k] & running) <= units[k]);
+        k += 1;
+    }
+    ok
+}
+
+// Whether each of the first tasks is finished.
+pub fn is_over(tasks: usize, finished: u64) -> bool
+    requires { ⌜ tasks ≤ mostTasks ⌝ }
+    ensures { λ r. ⌜ r ≡ all tasks (has finished) ⌝ }
+{
+    let done = task_set::members_below(finished, tasks);
+    (task_set::member_count(done) as usize) == tasks
+}
+
+pub fn is_sound(s: State) -> bool
+    ensures { λ r. ⌜ r ≡ isSound s ⌝ }
+{
+    let p = s.plan;
+    let c = s.constraint;
+    let types = p.types;
+    let tasks = p.tasks;
+    let len = c.len;
+    let v = plan::check_parts(
+        types,
+        &p.units,
+        tasks,
+        &p.bcet,
+        &p.wcet,
+        &p.predecessors,
+        len,
+        &c.order,
+        &c.chosen,
+    );
+    if v.number != 0 {
+        return false;
+    }
+    let n = s.started;
+    if tasks < n {
+        return false;
+    }
+    let starts = s.starts;
+    let finishes = s.finishes;
+    let finished = s.finished;
+    let instant = s.instant;
+    let begun = first_tasks(&c.order, n);
+    let running = task_set::difference(begun, finished);
+    let spent = reached_by(&p.wcet, &starts, &c.order, &c.chosen, n, instant as u64) & running;
+    let users = type_users(&c.order, &c.chosen, len);
+    let early = (instant <= LAST_INSTANT) & (is_over(tasks, finished) | (instant < LAST_INSTANT));
+    all_times_fit(&starts, &finishes, begun, finished, instant)
+        & (spent == 0)
+        & (enough_units(&p.units, &users, running) & early)
+}
