@@ -2,10 +2,10 @@
 use mathlib.Core.Path.{_≡_, refl, sym, ap, _∙_, subst}
 use mathlib.Core.Bool.{true, false, _||_, not}
 use mathlib.Core.List.{List}
-use Prim.Native.Nat.{ℕ, _≤_, _<_}
+use Prim.Native.Nat.{ℕ, _≤_, _<_, zero-le}
 use native.Mathlib.Nat.{le-trans, le-of-eq, lt-of-lt-of-le}
 use native.Mathlib.Omega.{arith}
-use borrow.Author.Tests.{eq-eqb, ne-eqb, lt-ltb, le-ltb, leb-true, leb-false, not-false}
+use borrow.Author.Tests.{eq-eqb, eqb-true, ne-eqb, lt-ltb, le-ltb, leb-true, leb-false, not-false}
 use lib.Dec.{eqb, leb, ltb}
 use lib.ListN.{length}
 use Rattle.task_set.specs.Bounded.{first}
@@ -17,8 +17,10 @@ use Rattle.plan.specs.declared.Verdict.{Verdict}
 use Rattle.plan.specs.Rules.{timeOf, between}
 use Rattle.plan.specs.Refusals.{entryAt, constraintOf, refused, unlessAt, firstRefusal, verdict}
 use Rattle.plan.proofs.Accepted.{Accepted, accepted as taken}
-use Rattle.runs.specs.Running.{typeOf, best, worst}
+use Rattle.dispatch_theory.specs.Sums.{sum}
+use Rattle.runs.specs.Running.{typeOf, best, worst, bound}
 use Rattle.runs.proofs.Positions.{type-entry, task-times}
+use Rattle.runs.proofs.Theorems.{bound-sum}
 use Rattle.simulation.specs.declared.Simulation.{Simulation}
 use Rattle.simulation.specs.Simulated.{timeIn, outside, timesVerdict, simulationVerdict, ran, notRun, simulated, worstCase}
 use Rattle.simulation.specs.Steps.{Distinct, ChosenTimes, beyond, FirstOutside, Rest, Ready}
@@ -134,3 +136,15 @@ module _ (p : Plan) (c : Constraint) {v : Verdict} (ev : v ≡ verdict p c) (f :
   pub simulation-refused : (times : List ℕ) → notRun (refused (v .number) (v .place)) ≡ simulated p c times
   unfolding simulated simulationVerdict firstRefusal
   simulation-refused times = ap notRun ev ∙ rw refuses (rw refuses refl)
+
+-- ---- the bound is at most the sum of the worst times
+
+worst-sum : (p : Plan) (c : Constraint) → worstCase p c .response ≤ sum (p .tasks) (worst p c)
+unfolding worstCase ran notRun bound
+worst-sum p c =
+    by-test (eqb (verdict p c .number) 0)
+    (λ e. rw e (bound-sum p c (eqb-true (verdict p c .number) 0 e)))
+    (λ e. rw e zero-le)
+
+pub with-sum : (p : Plan) (c : Constraint) {r : Simulation} → r ≡ worstCase p c → (r ≡ worstCase p c) × (r .response ≤ sum (p .tasks) (worst p c))
+with-sum p c e = (e, rw e (worst-sum p c))

@@ -1,6 +1,9 @@
 // The simulation of a plan under a constraint, and the bound (document 01, "Running rules").
 ghost use mathlib.Core.Path.{_≡_};
+ghost use Prim.Native.Nat.{_≤_};
 ghost use Rattle.plan.specs.Refusals.{refused};
+ghost use Rattle.dispatch_theory.specs.Sums.{sum};
+ghost use Rattle.runs.specs.Running.{worst};
 ghost use Rattle.simulation.specs.Simulated.{notRun, simulated, worstCase};
 use plan::Constraint;
 use plan::Plan;
@@ -63,9 +66,9 @@ pub fn simulate(p: Plan, c: Constraint, times: &[u32]) -> Simulation
     run(&p.units, &p.predecessors, tasks, &c.order, &c.chosen, times)
 }
 
-// The run with the worst times of the chosen types: its response is the bound.
+// The run with the worst times of the chosen types: its response is the bound, at most the sum of these times.
 pub fn bound(p: Plan, c: Constraint) -> Simulation
-    ensures { λ r. ⌜ r ≡ worstCase p c ⌝ }
+    ensures { λ r. ⌜ (r ≡ worstCase p c) × (r .response ≤ sum (p .tasks) (worst p c)) ⌝ }
 {
     let types = p.types;
     let tasks = p.tasks;

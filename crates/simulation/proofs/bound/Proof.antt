@@ -4,7 +4,7 @@ use borrow.Author.Needs.{needs}
 use Rattle.plan.specs.declared.Verdict.{Verdict}
 use Rattle.plan.specs.Refusals.{verdict}
 use Rattle.plan.proofs.Accepted.{accepted}
-use Rattle.simulation.proofs.Answers.{distinct, ready-worst, bound-runs, bound-refused}
+use Rattle.simulation.proofs.Answers.{distinct, ready-worst, bound-runs, bound-refused, with-sum}
 use Rattle.simulation.proofs.bound.Statement.{statement}
 use Rattle.simulation.proofs.bound.Tie as tie
 
@@ -25,7 +25,7 @@ not-run-requires : tie.Need-not-run-requires
 not-run-requires c κs = search needs
 
 returns : tie.Need-returns
-returns c = c .not-run .ensures ∙ bound-refused _ _ (c .before .before .before .check-parts .ensures) (c .before .if1 .taken)
+returns c = with-sum _ _ (c .not-run .ensures ∙ bound-refused _ _ (c .before .before .before .check-parts .ensures) (c .before .if1 .taken))
 
 chosen-times-requires : tie.Need-chosen-times-requires
 chosen-times-requires c κs = distinct _ _ (accepted _ _ (checked (c .before .before .before .before .before)))
@@ -39,7 +39,7 @@ run-requires c κs = let w = c .before .before .before .before .before .before .
 returns-2 : tie.Need-returns-2
 returns-2 c =
     let w = c .before .before .before .before .before .before .before .before in
-    bound-runs _ _ (checked (took w)) (c .run .ensures _ (ready-worst _ _ (checked (took w)) (w .chosen-times .ensures)))
+    with-sum _ _ (bound-runs _ _ (checked (took w)) (c .run .ensures _ (ready-worst _ _ (checked (took w)) (w .chosen-times .ensures))))
 
 pub bound-spec : {M : Type 1} → statement M
 bound-spec =

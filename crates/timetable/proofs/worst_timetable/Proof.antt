@@ -11,7 +11,7 @@ wide-requires : tie.Need-wide-requires
 wide-requires c κs = search needs
 
 write-run-requires : tie.Need-write-run-requires
-write-run-requires c κs = worst-few _ _ (c .before .before .before .before .before .before .before .before .bound .ensures)
+write-run-requires c κs = worst-few _ _ (c .before .before .before .before .before .before .before .before .bound .ensures .0)
 
 same-length : tie.Need-same-length
 same-length c = search needs
@@ -19,7 +19,7 @@ same-length c = search needs
 returns : tie.Need-returns
 returns c =
     let w = c .before .before .before .before .before .before .before .before .before .before in
-    worst-outcome _ _ (w .before .bound .ensures) (w .wide .ensures) (c .before .before .write-run .ensures)
+    worst-outcome _ _ (w .before .bound .ensures .0) (w .wide .ensures) (c .before .before .write-run .ensures)
 
 pub worst-timetable-spec : {M : Type 1} → statement M
 worst-timetable-spec =
