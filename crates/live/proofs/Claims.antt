@@ -15,7 +15,8 @@ use Rattle.plan.specs.Refusals.{refused, unlessAt, firstRefusal, verdict}
 use Rattle.plan.proofs.Accepted.{accepted}
 use Rattle.runs.specs.Running.{Notes, hasStarted, blank, opening, step, worst, Allowed, timed, over}
 use Rattle.runs.specs.Progress.{stage, asFar}
-use Rattle.runs.specs.Journal.{Answer, idle, early, overdue, refusal, hear, newlyStarted, answer, openingAnswer, notesFrom, answersFrom, journal, answers, acceptedCount, takenTime}
+use Rattle.runs.specs.Journal.{Answer, idle, early, overdue, refusal, hear, newlyStarted, answer, openingAnswer, notesFrom}
+use Rattle.runs.specs.Journal.{answersFrom, journal, answers, acceptedCount, takenTime}
 use Rattle.runs.proofs.Theorems as theorems
 use Rattle.live.specs.declared.Ticked.{Ticked}
 use Rattle.live.specs.States.{notesOf, stateOf}
@@ -105,7 +106,8 @@ module _ (p : Plan) (c : Constraint) where
   unfolding stateAfter notesFrom
   state-follows [] n h = refl
   state-follows (report ∷ rest) n h =
-      ap (λ (r : Ticked). stateAfter (r .state) rest) (tick-heard n (h []) report) ∙ state-follows rest (hear p c n report) (λ more. h (report ∷ more))
+      ap (λ (r : Ticked). stateAfter (r .state) rest) (tick-heard n (h []) report)
+      ∙ state-follows rest (hear p c n report) (λ more. h (report ∷ more))
 
   module _ (ok : verdict p c .number ≡ 0) where
     stands : (reports : List ℕ) → Stands p c (journal p c reports)

@@ -1,15 +1,13 @@
 -- The state that a run begins with. Assumes nothing.
-use mathlib.Core.Path.{_≡_, refl, sym, ap, _∙_}
-use mathlib.Core.Bool.{Bool, true, false, cond}
-use mathlib.Core.Option.{none, some}
+use mathlib.Core.Path.{_≡_, refl, ap}
 use Prim.Native.Nat.{ℕ, _≤_, zero-le}
 use native.Mathlib.Omega.{arith}
 use borrow.Author.Tests.{eq-eqb, ne-eqb, ltb-true, ltb-false}
-use lib.Dec.{eqb, ltb}
+use lib.Dec.{ltb}
 use lib.ListN.{getD, length, replicate, length-replicate, getD-replicate, List·getD-eq-default}
 use lib.Pow.{pow-pos}
 use Rattle.task_set.specs.Bounded.{any}
-use Rattle.task_set.specs.Sets.{width, has}
+use Rattle.task_set.specs.Sets.{width}
 use Rattle.task_set.proofs.Truth.{by-test, clash}
 use Rattle.task_set.proofs.Members.{has-none}
 use Rattle.plan.specs.declared.Plan.{Plan}
@@ -20,7 +18,6 @@ use Rattle.plan.specs.Refusals.{verdict}
 use Rattle.runs.specs.Running.{Notes, entries, dispatch, blank, opening}
 use Rattle.runs.proofs.Closed.{notes-ext}
 use Rattle.live.specs.declared.State.{State}
-use Rattle.live.specs.declared.Ticked.{Ticked}
 use Rattle.live.specs.States.{isStarted, notesOf, noState}
 use Rattle.live.specs.Ticks.{moved, stayed, started}
 use Rattle.live.specs.Steps.{stateFrom, Tidy}
@@ -28,7 +25,8 @@ use Rattle.live.specs.Steps.{stateFrom, Tidy}
 zeros : (t : ℕ) → _≡_ {A = ℕ} (getD (replicate mostTasks 0) t 0) 0
 zeros t =
     by-test (ltb t mostTasks) (λ e. getD-replicate {A = ℕ} mostTasks t 0 0 (ltb-true t mostTasks e))
-    (λ e. let l : length (replicate {A = ℕ} mostTasks 0) ≤ t = omega (arith, ltb-false t mostTasks e) in List·getD-eq-default (replicate {A = ℕ} mostTasks 0) 0 l)
+    (λ e. let l : length (replicate {A = ℕ} mostTasks 0) ≤ t = omega (arith, ltb-false t mostTasks e) in
+    List·getD-eq-default (replicate {A = ℕ} mostTasks 0) 0 l)
 
 module _ (p : Plan) (c : Constraint) where
   abbrev pub fresh : State

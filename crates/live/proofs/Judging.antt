@@ -22,7 +22,8 @@ use Rattle.runs.specs.Running.{hasStarted, hasFinished, isRunning, over}
 use Rattle.runs.proofs.Positions.{worst-entry}
 use Rattle.live.specs.declared.State.{State}
 use Rattle.live.specs.States.{isStarted, notesOf}
-use Rattle.live.specs.Soundness.{startIn, lastInstant, checked, startedFits, finishedStarted, startCame, finishCame, unusedZero, timeLeft, unitsEnough, instantLow, taskSound, isSound}
+use Rattle.live.specs.Soundness.{startIn, lastInstant, checked, startedFits, finishedStarted, startCame, finishCame}
+use Rattle.live.specs.Soundness.{unusedZero, timeLeft, unitsEnough, instantLow, taskSound, isSound}
 use Rattle.live.specs.Steps.{firstTasks, typeUsers, reached, timesFit, allTimesFit, enoughFor}
 use Rattle.live.proofs.Standing.{has-first, tasks-small}
 use Rattle.live.proofs.StateBack.{started-notes, finished-notes}
@@ -114,7 +115,8 @@ module _ (s : State) where
       where
         yes : isRunning (notesOf s) t ≡ true → timeLeft s t ≡ not (has spent t && isRunning (notesOf s) t)
         yes e =
-            let x = started-position s a (y .few) t (sym (started-notes s t) ∙ and-left (hasStarted (notesOf s) t) (not (hasFinished (notesOf s) t)) e) in
+            let x = started-position s a (y .few) t
+            (sym (started-notes s t) ∙ and-left (hasStarted (notesOf s) t) (not (hasFinished (notesOf s) t)) e) in
             rw (e, and-true (has spent t), ← x .2)
             (ap (λ (w : ℕ). ltb (s .instant) (startIn s (entryAt (s .constraint .order) (x .0)) + w))
             (worst-entry (s .plan) (s .constraint) a (x .0) (lt-of-lt-of-le (x .1) (y .few)))

@@ -1,18 +1,16 @@
 -- A sound state at the next instant, with running tasks reported: its notes, and that it is tidy. Assumes nothing.
-use mathlib.Core.Path.{_≡_, refl, sym, ap, ap₂, _∙_}
-use mathlib.Core.Bool.{Bool, true, false, cond, _&&_, _||_, not, and-false, or-true, or-false}
+use mathlib.Core.Path.{_≡_, refl, sym, _∙_}
+use mathlib.Core.Bool.{Bool, true, false, cond, _&&_, _||_, and-false, or-true, or-false}
 use mathlib.Core.List.{List}
 use mathlib.Core.Logic.{⊎-elim}
-use mathlib.Core.Option.{Option, none, some}
-use Prim.Native.Nat.{ℕ, suc, _+_, _^_, _≤_, _<_}
-use native.Mathlib.Nat.{le-refl}
+use Prim.Native.Nat.{ℕ, _+_, _^_, _≤_, _<_}
 use native.Mathlib.Numerals.{add-one}
 use native.Mathlib.Omega.{arith}
-use borrow.Author.Tests.{ltb-true, ltb-false, leb-true, eqb-true, not-true, not-false}
-use lib.Bits.{bitOr, or-lt}
+use borrow.Author.Tests.{ltb-true, ltb-false, leb-true, eqb-true, not-false}
+use lib.Bits.{or-lt}
 use lib.Dec.{eqb, ltb}
 use lib.ListN.{getD, length, List·getD-eq-default}
-use Rattle.task_set.specs.Bounded.{all, implies, tabulate}
+use Rattle.task_set.specs.Bounded.{all}
 use Rattle.task_set.specs.Sets.{width, has}
 use Rattle.task_set.proofs.Truth.{by-test, clash, and-left, and-right, or-cases, or-left-off, or-right-off, implies-elim}
 use Rattle.task_set.proofs.Bounded.{all-elim}
@@ -20,14 +18,15 @@ use Rattle.task_set.proofs.Members.{has-or, has-past}
 use Rattle.task_set.proofs.Tables.{length-tabulate, getD-tabulate}
 use Rattle.plan.specs.Rules.{mostTypes, mostTasks}
 use Rattle.plan.specs.Refusals.{verdict}
-use Rattle.runs.specs.Running.{Notes, hasStarted, hasFinished, isRunning, advance}
+use Rattle.runs.specs.Running.{hasStarted, isRunning, advance}
 use Rattle.runs.specs.Journal.{idle}
 use Rattle.runs.proofs.Closed.{notes-ext}
 use Rattle.live.specs.declared.State.{State}
 use Rattle.live.specs.States.{isStarted, notesOf}
-use Rattle.live.specs.Soundness.{lastInstant, checked, startedFits, finishedStarted, startCame, finishCame, unusedZero, timeLeft, unitsEnough, instantLow, taskSound, isSound}
+use Rattle.live.specs.Soundness.{lastInstant, checked, startedFits, finishedStarted, startCame, finishCame, unusedZero}
+use Rattle.live.specs.Soundness.{unitsEnough, instantLow, taskSound, isSound}
 use Rattle.live.specs.Steps.{stampAt, reportedState, Tidy}
-use Rattle.live.proofs.StateBack.{started-notes, finished-notes}
+use Rattle.live.proofs.StateBack.{started-notes}
 
 -- a state's words and arrays are as wide as their types
 pub record Shaped (s : State) : Type 0 where
@@ -53,7 +52,9 @@ module _ (s : State) (h : Shaped s) (sound : isSound s ≡ true) where
 
   pub sound-instant : s .instant ≤ lastInstant
   unfolding rest instantLow
-  sound-instant = leb-true (s .instant) lastInstant (and-left _ _ (and-right (all mostTypes (unitsEnough s)) (instantLow s) (and-right (all width (taskSound s)) _ rest-sound)))
+  sound-instant =
+      leb-true (s .instant) lastInstant
+      (and-left _ _ (and-right (all mostTypes (unitsEnough s)) (instantLow s) (and-right (all width (taskSound s)) _ rest-sound)))
 
   task : (t : ℕ) → t < width → taskSound s t ≡ true
   unfolding rest
@@ -69,11 +70,14 @@ module _ (s : State) (h : Shaped s) (sound : isSound s ≡ true) where
 
   sound-ends : (t : ℕ) → has (s .finished) t ≡ true → isStarted s t ≡ true
   unfolding taskSound finishedStarted
-  sound-ends t e = implies-elim (has (s .finished) t) (isStarted s t) (and-left (finishedStarted s t) _ (task t (member-low (s .finished) t (h .finished-small) e))) e
+  sound-ends t e =
+      implies-elim (has (s .finished) t) (isStarted s t)
+      (and-left (finishedStarted s t) _ (task t (member-low (s .finished) t (h .finished-small) e))) e
 
   zero-unused : (t : ℕ) → t < width → unusedZero s t ≡ true
   unfolding taskSound
-  zero-unused t l = and-left (unusedZero s t) _ (and-right (finishCame s t) _ (and-right (startCame s t) _ (and-right (finishedStarted s t) _ (task t l))))
+  zero-unused t l =
+      and-left (unusedZero s t) _ (and-right (finishCame s t) _ (and-right (startCame s t) _ (and-right (finishedStarted s t) _ (task t l))))
 
   -- one or the other, and not the first
   other : (a b : Bool) → a || b ≡ true → a ≡ false → b ≡ true
@@ -107,7 +111,9 @@ module _ (s : State) (h : Shaped s) (sound : isSound s ≡ true) where
 
     pub reported-notes : notesOf (reportedState s report) ≡ advance (has report) (notesOf s)
     unfolding isStarted
-    reported-notes = notes-ext (add-one (s .instant)) (λ t. refl) (λ t. by-test (ltb t width) (λ q. inside t (ltb-true t width q)) (λ q. outside t (ltb-false t width q)))
+    reported-notes =
+        notes-ext (add-one (s .instant)) (λ t. refl)
+        (λ t. by-test (ltb t width) (λ q. inside t (ltb-true t width q)) (λ q. outside t (ltb-false t width q)))
       where
         goal : ℕ → Type 0
         goal t = notesOf (reportedState s report) .finish t ≡ advance (has report) (notesOf s) .finish t
@@ -120,7 +126,12 @@ module _ (s : State) (h : Shaped s) (sound : isSound s ≡ true) where
 
         outside : (t : ℕ) → width ≤ t → goal t
         outside t l =
-            rw (has-or t (s .finished) report, has-past width t small l, and-false (isRunning (notesOf s) t), has-past width t (h .finished-small) l) refl
+            rw (
+              has-or t (s .finished) report,
+              has-past width t small l,
+              and-false (isRunning (notesOf s) t),
+              has-past width t (h .finished-small) l,
+            ) refl
 
     pub reported-tidy : Tidy (reportedState s report)
     unfolding isStarted
@@ -128,12 +139,15 @@ module _ (s : State) (h : Shaped s) (sound : isSound s ≡ true) where
         record {
           checked = sound-checked;
           few = sound-few;
-          finished-started = λ t e. ⊎-elim (sound-ends t) (λ q. sym (started-notes s t) ∙ and-left (hasStarted (notesOf s) t) _ (reported-runs t q)) (or-cases _ _ (sym (has-or t (s .finished) report) ∙ e));
+          finished-started =
+              λ t e. ⊎-elim (sound-ends t) (λ q. sym (started-notes s t) ∙ and-left (hasStarted (notesOf s) t) _ (reported-runs t q))
+              (or-cases _ _ (sym (has-or t (s .finished) report) ∙ e));
           starts-zero = sound-tidy .starts-zero;
           finishes-zero = λ t e.
               let f = sym (has-or t (s .finished) report) ∙ e in
               past-zero (reportedState s report .finishes) t (length-tabulate mostTasks _)
-              (λ l. stamp t l ∙ rw (or-right-off (has (s .finished) t) (has report t) f) (sound-tidy .finishes-zero t (or-left-off (has (s .finished) t) (has report t) f)));
+              (λ l. stamp t l ∙ rw (or-right-off (has (s .finished) t) (has report t) f)
+              (sound-tidy .finishes-zero t (or-left-off (has (s .finished) t) (has report t) f)));
           finished-small = or-lt width (s .finished) report (h .finished-small) small;
           starts-long = h .starts-long;
           finishes-long = length-tabulate mostTasks _;

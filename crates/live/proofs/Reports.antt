@@ -1,26 +1,26 @@
 -- The faulty sets of a report on a state are those of the journal on its notes. Assumes nothing.
-use mathlib.Core.Path.{_≡_, refl, sym, ap, ap₂, _∙_, subst}
+use mathlib.Core.Path.{_≡_, refl, sym, ap, ap₂, _∙_}
 use mathlib.Core.Bool.{Bool, true, false, cond, _&&_, not, and-false, and-true, and-comm}
 use mathlib.Core.List.{List}
-use mathlib.Core.Option.{none, some}
+use mathlib.Core.Option.{none}
 use Prim.Native.Nat.{ℕ, suc, _+_, _^_, _≤_, _<_}
 use native.Mathlib.Nat.{le-refl, le-of-eq}
 use native.Mathlib.Numerals.{add-one}
 use native.Mathlib.Omega.{arith}
-use borrow.Author.Tests.{leb-true, leb-false, le-leb, lt-leb, lt-ltb, le-ltb, ltb-true, ltb-false, not-false}
+use borrow.Author.Tests.{leb-true, leb-false, lt-ltb, le-ltb, not-false}
 use lib.Bits.{bitAnd}
 use lib.Dec.{leb, ltb}
 use lib.ListN.{getD}
 use Rattle.task_set.specs.Bounded.{first}
 use Rattle.task_set.specs.Sets.{width, has, without, lowest}
-use Rattle.task_set.proofs.Truth.{by-test, same, and-left, and-right, and-both}
+use Rattle.task_set.proofs.Truth.{by-test, and-left}
 use Rattle.task_set.proofs.Search.{first-cong, search-ended}
 use Rattle.task_set.proofs.Members.{has-none, has-and, has-without, lowest-low}
 use Rattle.plan.specs.declared.Verdict.{Verdict}
 use Rattle.plan.specs.Rules.{timeOf}
 use Rattle.plan.specs.Refusals.{entryAt, refused, unlessAt}
 use Rattle.plan.proofs.Accepted.{Accepted}
-use Rattle.runs.specs.Running.{Notes, given, orZero, hasStarted, hasFinished, isRunning, best, worst}
+use Rattle.runs.specs.Running.{orZero, hasStarted, hasFinished, isRunning, best, worst}
 use Rattle.runs.specs.Journal.{idle, early, overdue}
 use Rattle.runs.proofs.Positions.{best-entry, worst-entry}
 use Rattle.live.specs.declared.State.{State}
@@ -42,7 +42,9 @@ module _ (number : ℕ) (fault : ℕ → Bool) (rest : Verdict) {x : ℕ} (small
   set-empty e = ap (λ (b : Bool). cond b (refused number (first width fault)) rest) (le-ltb (first width fault) width (le-of-eq none))
     where
       none : width ≡ first width fault
-      none = search-ended (record { within = le-refl width; before = λ j l. sym (same-set j l) ∙ ap (λ (z : ℕ). has z j) e ∙ has-none j }) (le-refl width)
+      none =
+          search-ended (record { within = le-refl width; before = λ j l. sym (same-set j l) ∙ ap (λ (z : ℕ). has z j) e ∙ has-none j })
+          (le-refl width)
 
   pub set-faulty : (x ≡ 0 → ⊥) → unlessAt number width fault rest ≡ refused number (lowest x)
   unfolding unlessAt
@@ -72,8 +74,10 @@ module _ (s : State) (a : Accepted (s .plan) (s .constraint)) (few : s .started 
     started = sym (started-notes s t) ∙ and-left (hasStarted (notesOf s) t) (not (hasFinished (notesOf s) t)) r
 
     own-time : (times : List ℕ) (time : ℕ → ℕ)
-        → ((j : ℕ) → j < s .plan .tasks → time (entryAt (s .constraint .order) j) ≡ timeOf times (entryAt (s .constraint .order) j) (entryAt (s .constraint .chosen) j))
-        → has (reached times (s .starts) (s .constraint .order) (s .constraint .chosen) (s .started) i) t ≡ leb (orZero (notesOf s .start t) + time t) i
+        → ((j : ℕ) → j < s .plan .tasks
+        → time (entryAt (s .constraint .order) j) ≡ timeOf times (entryAt (s .constraint .order) j) (entryAt (s .constraint .chosen) j))
+        → has (reached times (s .starts) (s .constraint .order) (s .constraint .chosen) (s .started) i) t
+        ≡ leb (orZero (notesOf s .start t) + time t) i
     unfolding reached
     own-time times time h =
         let x = started-position s a few t started in
@@ -96,10 +100,16 @@ module _ (s : State) (a : Accepted (s .plan) (s .constraint)) (few : s .started 
     early-set {x} {z} h e f t l =
         ap (λ (y : ℕ). has y t) f ∙ has-without report z t ∙ by-test (has report t) reported (λ q. rw q refl)
       where
-        reported : has report t ≡ true → has report t && not (has z t) ≡ has report t && ltb (suc (s .instant)) (orZero (notesOf s .start t) + best (s .plan) (s .constraint) t)
+        reported : has report t ≡ true
+            → has report t && not (has z t) ≡ has report t && ltb (suc (s .instant)) (orZero (notesOf s .start t) + best (s .plan) (s .constraint) t)
         reported q =
             let r : isRunning (notesOf s) t ≡ true = not-false _ (rw q at (h t l)) in
-            rw (q, e, own-time t (s .instant + 1) r (s .plan .bcet) (best (s .plan) (s .constraint)) (best-entry (s .plan) (s .constraint) a), add-one (s .instant))
+            rw (
+              q,
+              e,
+              own-time t (s .instant + 1) r (s .plan .bcet) (best (s .plan) (s .constraint)) (best-entry (s .plan) (s .constraint) a),
+              add-one (s .instant),
+            )
             (not-reached (orZero (notesOf s .start t) + best (s .plan) (s .constraint) t) (suc (s .instant)))
 
     pub overdue-set : {x z : ℕ} → z ≡ reached (s .plan .wcet) (s .starts) (s .constraint .order) (s .constraint .chosen) (s .started) (s .instant + 1)
@@ -113,7 +123,13 @@ module _ (s : State) (a : Accepted (s .plan) (s .constraint)) (few : s .started 
         late : Bool
         late = leb (orZero (notesOf s .start t) + worst (s .plan) (s .constraint) t) (suc (s .instant))
 
-        yes : isRunning (notesOf s) t ≡ true → (has z t && isRunning (notesOf s) t) && not (has report t) ≡ isRunning (notesOf s) t && (not (has report t) && late)
+        yes : isRunning (notesOf s) t ≡ true
+            → (has z t && isRunning (notesOf s) t) && not (has report t) ≡ isRunning (notesOf s) t && (not (has report t) && late)
         yes r =
-            rw (r, e, own-time t (s .instant + 1) r (s .plan .wcet) (worst (s .plan) (s .constraint)) (worst-entry (s .plan) (s .constraint) a), add-one (s .instant))
+            rw (
+              r,
+              e,
+              own-time t (s .instant + 1) r (s .plan .wcet) (worst (s .plan) (s .constraint)) (worst-entry (s .plan) (s .constraint) a),
+              add-one (s .instant),
+            )
             (ap (λ (b : Bool). b && not (has report t)) (and-true late) ∙ and-comm late (not (has report t)))

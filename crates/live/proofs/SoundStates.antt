@@ -29,8 +29,10 @@ use Rattle.runs.proofs.Listed.{worst-positive}
 use Rattle.runs.proofs.Theorems.{first-over, bound-sum}
 use Rattle.live.specs.declared.State.{State}
 use Rattle.live.specs.States.{isStarted, stateOf}
-use Rattle.live.specs.Soundness.{startIn, finishIn, lastInstant, checked, startedFits, finishedStarted, startCame, finishCame, unusedZero, timeLeft, unitsEnough, instantLow, taskSound, isSound}
-use Rattle.live.proofs.NotesBack.{count-entries, positive, unstarted, started-entry, finished-entry, started-few, started-back, finished-back, notes-back}
+use Rattle.live.specs.Soundness.{startIn, finishIn, lastInstant, checked, startedFits, finishedStarted, startCame}
+use Rattle.live.specs.Soundness.{finishCame, unusedZero, timeLeft, unitsEnough, instantLow, taskSound, isSound}
+use Rattle.live.proofs.NotesBack.{count-entries, positive, unstarted, started-entry, finished-entry, started-few}
+use Rattle.live.proofs.NotesBack.{started-back, finished-back, notes-back}
 
 -- the start s and the finish f noted at instant i of a task with the worst time w: they have come, and a running task has time left
 abbrev Came : ℕ → ℕ → Option ℕ → Option ℕ → Type 0
@@ -105,9 +107,11 @@ module _ (p : Plan) (c : Constraint) (ok : verdict p c .number ≡ 0) (d : ℕ �
       uses t = isRunning n t && eqb (typeOf c t) k
 
       each : (j : ℕ) → j < p .tasks
-          → uses (entryAt (c .order) j) ≡ eqb (entryAt (c .chosen) j) k && (leb (startsOf p c d j) i && ltb i (ends (startsOf p c d) (durations c d) j))
+          → uses (entryAt (c .order) j) ≡ eqb (entryAt (c .chosen) j) k
+          && (leb (startsOf p c d j) i && ltb i (ends (startsOf p c d) (durations c d) j))
       each j l =
-          rw (started-entry p c a d w i j l, finished-entry p c a d w i j l, type-entry p c a j l, not-leb) (and-comm _ (eqb (entryAt (c .chosen) j) k))
+          rw (started-entry p c a d w i j l, finished-entry p c a d w i j l, type-entry p c a j l, not-leb)
+          (and-comm _ (eqb (entryAt (c .chosen) j) k))
 
   units-enough : (k : ℕ) → k < mostTypes → unitsEnough s k ≡ true
   unfolding unitsEnough stateOf

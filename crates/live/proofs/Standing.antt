@@ -33,13 +33,17 @@ tasks-small order n q = setOf-small width _ (le-refl width)
 
 pub tasks-none : (order : List ℕ) (q : ℕ → Bool) → 0 ≡ tasksAt order 0 q
 unfolding any
-tasks-none order q = set-ext width 0 (tasksAt order 0 q) (pow-pos width) (tasks-small order 0 q) (λ t l. has-none t ∙ sym (has-tasks order 0 q t l ∙ none t))
+tasks-none order q =
+    set-ext width 0 (tasksAt order 0 q) (pow-pos width) (tasks-small order 0 q) (λ t l. has-none t ∙ sym (has-tasks order 0 q t l ∙ none t))
   where
     none : (t : ℕ) → any 0 (λ j. q j && eqb (entryAt order j) t) ≡ false
     none t = refl
 
-tasks-more : (order : List ℕ) (n : ℕ) (q : ℕ → Bool) → cond (q n) (insert (tasksAt order n q) (entryAt order n)) (tasksAt order n q) ≡ tasksAt order (n + 1) q
-tasks-more order n q = set-ext width _ (tasksAt order (n + 1) q) (small (q n)) (tasks-small order (n + 1) q) (λ t l. grown (q n) t l ∙ sym (has-tasks order (n + 1) q t l ∙ any-next n _))
+tasks-more : (order : List ℕ) (n : ℕ) (q : ℕ → Bool)
+    → cond (q n) (insert (tasksAt order n q) (entryAt order n)) (tasksAt order n q) ≡ tasksAt order (n + 1) q
+tasks-more order n q =
+    set-ext width _ (tasksAt order (n + 1) q) (small (q n)) (tasks-small order (n + 1) q)
+    (λ t l. grown (q n) t l ∙ sym (has-tasks order (n + 1) q t l ∙ any-next n _))
   where
     s : ℕ
     s = tasksAt order n q
@@ -48,7 +52,8 @@ tasks-more order n q = set-ext width _ (tasksAt order (n + 1) q) (small (q n)) (
     small true = insert-small s (entryAt order n) (tasks-small order n q)
     small false = tasks-small order n q
 
-    grown : (b : Bool) (t : ℕ) → t < width → has (cond b (insert s (entryAt order n)) s) t ≡ any n (λ j. q j && eqb (entryAt order j) t) || (b && eqb (entryAt order n) t)
+    grown : (b : Bool) (t : ℕ) → t < width
+        → has (cond b (insert s (entryAt order n)) s) t ≡ any n (λ j. q j && eqb (entryAt order j) t) || (b && eqb (entryAt order n) t)
     grown true t l = has-insert-low s (entryAt order n) t l ∙ ap (λ (b : Bool). b || eqb (entryAt order n) t) (has-tasks order n q t l)
     grown false t l = has-tasks order n q t l ∙ sym (or-false _)
 
@@ -68,7 +73,8 @@ has-first order n t l = ap (λ (x : ℕ). has x t) (sym (first-all order n)) ∙
 -- ---- the sets of users of each type
 
 -- a table of which one entry changes
-pub tabulate-set : (n : ℕ) (f g : ℕ → ℕ) (k v : ℕ) → k < n → g k ≡ v → ((i : ℕ) → i < n → (i ≡ k → ⊥) → f i ≡ g i) → set (tabulate n f) k v ≡ tabulate n g
+pub tabulate-set : (n : ℕ) (f g : ℕ → ℕ) (k v : ℕ) → k < n → g k ≡ v → ((i : ℕ) → i < n → (i ≡ k → ⊥) → f i ≡ g i)
+    → set (tabulate n f) k v ≡ tabulate n g
 tabulate-set n f g k v l e h =
     ext-getD 0 (set (tabulate n f) k v) (tabulate n g) (length-set (tabulate n f) k v ∙ length-tabulate n f ∙ sym (length-tabulate n g)) each
   where
@@ -79,15 +85,18 @@ tabulate-set n f g k v l e h =
     each i m =
         by-test (eqb i k)
         (λ q. rw (eqb-true i k q) (getD-set-same (tabulate n f) k v 0 (rw length-tabulate l) ∙ sym (getD-tabulate n g k 0 l ∙ e)))
-        (λ q. getD-set-other (tabulate n f) k i v 0 (eqb-false i k q) ∙ getD-tabulate n f i 0 (low i m) ∙ h i (low i m) (eqb-false i k q) ∙ sym (getD-tabulate n g i 0 (low i m)))
+        (λ q. getD-set-other (tabulate n f) k i v 0 (eqb-false i k q) ∙ getD-tabulate n f i 0 (low i m) ∙ h i (low i m) (eqb-false i k q)
+        ∙ sym (getD-tabulate n g i 0 (low i m)))
 
 pub users-none : (order chosen : List ℕ) → tabulate mostTypes (λ k. 0) ≡ tabulate mostTypes (typeUsers order chosen 0)
 unfolding typeUsers
 users-none order chosen = ap (tabulate mostTypes) (fun-ext (λ k. tasks-none order (λ j. eqb (entryAt chosen j) k)))
 
 -- the next position is a user of its own type alone
-pub users-more : (order chosen : List ℕ) (n : ℕ) {users : List ℕ} {s : ℕ} → entryAt chosen n < mostTypes → users ≡ tabulate mostTypes (typeUsers order chosen n)
-    → s ≡ insert (getD users (entryAt chosen n) 0) (entryAt order n) → set users (entryAt chosen n) s ≡ tabulate mostTypes (typeUsers order chosen (n + 1))
+pub users-more : (order chosen : List ℕ) (n : ℕ) {users : List ℕ} {s : ℕ} → entryAt chosen n < mostTypes
+    → users ≡ tabulate mostTypes (typeUsers order chosen n)
+    → s ≡ insert (getD users (entryAt chosen n) 0) (entryAt order n)
+    → set users (entryAt chosen n) s ≡ tabulate mostTypes (typeUsers order chosen (n + 1))
 unfolding typeUsers
 users-more order chosen n l e f =
     rw (f, e)
@@ -107,15 +116,19 @@ pub filled-none : (n : ℕ) (f : ℕ → ℕ) → tabulate n (λ t. 0) ≡ tabul
 unfolding filled
 filled-none n f = ap (tabulate n) (fun-ext (λ t. sym (rw (le-ltb t 0 zero-le) refl)))
 
-pub filled-more : (n : ℕ) (f : ℕ → ℕ) (i : ℕ) {l : List ℕ} {v : ℕ} → i < n → l ≡ tabulate n (filled f i) → v ≡ f i → set l i v ≡ tabulate n (filled f (i + 1))
+pub filled-more : (n : ℕ) (f : ℕ → ℕ) (i : ℕ) {l : List ℕ} {v : ℕ} → i < n → l ≡ tabulate n (filled f i) → v ≡ f i
+    → set l i v ≡ tabulate n (filled f (i + 1))
 unfolding filled
 filled-more n f i m e g =
     rw (e, g)
     (tabulate-set n (filled f i) (filled f (i + 1)) i (f i) m (rw (lt-ltb i (i + 1) (omega arith)) refl)
-    (λ t l h. ap (λ (b : Bool). cond b (f t) 0) (same (ltb t i) (ltb t (i + 1)) (λ q. lt-ltb t (i + 1) (omega (arith, ltb-true t i q))) (λ q. lt-ltb t i (omega (arith, h, ltb-true t (i + 1) q))))))
+    (λ t l h. ap (λ (b : Bool). cond b (f t) 0)
+    (same (ltb t i) (ltb t (i + 1)) (λ q. lt-ltb t (i + 1) (omega (arith, ltb-true t i q)))
+    (λ q. lt-ltb t i (omega (arith, h, ltb-true t (i + 1) q))))))
 
 pub filled-all : (n : ℕ) (f : ℕ → ℕ) → tabulate n (filled f n) ≡ tabulate n f
 unfolding filled
 filled-all n f =
     ext-getD 0 (tabulate n (filled f n)) (tabulate n f) (length-tabulate n (filled f n) ∙ sym (length-tabulate n f))
-    (λ i m. let l : i < n = rw (length-tabulate n (filled f n)) at m in getD-tabulate n (filled f n) i 0 l ∙ rw (lt-ltb i n l) (sym (getD-tabulate n f i 0 l)))
+    (λ i m. let l : i < n = rw (length-tabulate n (filled f n)) at m in
+    getD-tabulate n (filled f n) i 0 l ∙ rw (lt-ltb i n l) (sym (getD-tabulate n f i 0 l)))

@@ -66,7 +66,8 @@ module _ (s : State) (y : Tidy s) where
   started-count =
       count-cong width (hasStarted (notesOf s)) (isStarted s) (λ t l. started-notes s t)
       ∙ count-upto (s .plan .tasks) width (isStarted s) (a .few-tasks)
-      (λ t l m. any-none (s .started) _ (λ j k. ne-eqb (entryAt (s .constraint .order) j) t (λ e. omega (arith, a .task j (lt-of-lt-of-le k (y .few))))))
+      (λ t l m. any-none (s .started) _
+      (λ j k. ne-eqb (entryAt (s .constraint .order) j) t (λ e. omega (arith, a .task j (lt-of-lt-of-le k (y .few))))))
       ∙ counted (s .plan .tasks) (entryAt (s .constraint .order)) (a .task) new (s .started) (y .few)
 
   finished-set : setOf width (hasFinished (notesOf s)) ≡ s .finished
@@ -80,6 +81,8 @@ module _ (s : State) (y : Tidy s) where
       rw (
         started-count,
         finished-set,
-        table-list (λ t. orZero (notesOf s .start t)) (s .starts) (y .starts-long) (λ t. or-zero (isStarted s t) (getD (s .starts) t 0) (y .starts-zero t)),
-        table-list (λ t. orZero (notesOf s .finish t)) (s .finishes) (y .finishes-long) (λ t. or-zero (has (s .finished) t) (getD (s .finishes) t 0) (y .finishes-zero t)),
+        table-list (λ t. orZero (notesOf s .start t)) (s .starts) (y .starts-long)
+            (λ t. or-zero (isStarted s t) (getD (s .starts) t 0) (y .starts-zero t)),
+        table-list (λ t. orZero (notesOf s .finish t)) (s .finishes) (y .finishes-long)
+            (λ t. or-zero (has (s .finished) t) (getD (s .finishes) t 0) (y .finishes-zero t)),
       ) refl

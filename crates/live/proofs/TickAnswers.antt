@@ -1,25 +1,20 @@
 -- What a tick answers, test by test. Assumes nothing.
 use mathlib.Core.Path.{_≡_, refl, sym, ap, _∙_}
-use mathlib.Core.Bool.{Bool, true, false, cond, not}
-use Prim.Native.Nat.{ℕ, _+_, _^_, _≤_, _<_}
-use native.Mathlib.Nat.{lt-of-lt-of-le}
+use mathlib.Core.Bool.{true, false}
+use Prim.Native.Nat.{ℕ, _+_, _^_, _<_}
 use native.Mathlib.Omega.{arith}
-use borrow.Author.Tests.{ne-eqb, eq-eqb, eqb-true, ltb-false}
-use lib.Bits.{bitAnd, and-lt}
-use lib.Dec.{eqb, ltb}
-use Rattle.task_set.specs.Bounded.{all, first}
+use borrow.Author.Tests.{ne-eqb, eq-eqb}
+use lib.Bits.{bitAnd}
 use Rattle.task_set.specs.Sets.{width, has, without, lowest}
-use Rattle.task_set.proofs.Truth.{by-test, clash}
-use Rattle.task_set.proofs.Search.{first-none}
+use Rattle.task_set.proofs.Truth.{by-test}
 use Rattle.task_set.proofs.Members.{has-none, without-small}
 use Rattle.plan.specs.declared.Verdict.{Verdict}
 use Rattle.plan.specs.Refusals.{refused, accepted, unlessAt, firstRefusal}
 use Rattle.plan.proofs.Accepted.{Accepted, accepted as taken}
-use Rattle.runs.specs.Running.{Notes, entries, isRunning, advance, dispatch, step, over}
+use Rattle.runs.specs.Running.{Notes, entries, isRunning, dispatch, step, over}
 use Rattle.runs.specs.Journal.{idle, early, overdue, refusal, newlyStarted}
 use Rattle.runs.proofs.Sound.{report-timely}
 use Rattle.live.specs.declared.State.{State}
-use Rattle.live.specs.declared.Ticked.{Ticked}
 use Rattle.live.specs.States.{notesOf}
 use Rattle.live.specs.Soundness.{isSound}
 use Rattle.live.specs.Ticks.{moved, stayed, tickVerdict, ticked}
@@ -74,7 +69,8 @@ module _ (s : State) (report : ℕ) where
         says-14 g = after-13 ∙ set-faulty 14 (idle (notesOf s) report) past-14 small-14 idle-is g
 
         module _ (none : x ≡ 0) {z y : ℕ}
-            (e15 : z ≡ reached (s .plan .bcet) (s .starts) (s .constraint .order) (s .constraint .chosen) (s .started) (s .instant + 1)) (f15 : y ≡ without report z) where
+            (e15 : z ≡ reached (s .plan .bcet) (s .starts) (s .constraint .order) (s .constraint .chosen) (s .started) (s .instant + 1))
+            (f15 : y ≡ without report z) where
           after-14 : tickVerdict s report ≡ past-14
           after-14 = after-13 ∙ set-empty 14 (idle (notesOf s) report) past-14 small-14 idle-is none
 
@@ -115,7 +111,8 @@ module _ (s : State) (report : ℕ) where
 module _ (s : State) (report : ℕ) (h : Shaped s) (small : report < 2 ^ width) (ok : tickVerdict s report .number ≡ 0) where
   pub accepted-sound : isSound s ≡ true
   accepted-sound =
-      by-test (isSound s) (λ e. e) (λ e. let z : _≡_ {A = ℕ} 12 0 = sym (ap (λ (v : Verdict). v .number) (says-12 s report e)) ∙ ok in absurd (omega arith))
+      by-test (isSound s) (λ e. e) (λ e. let z : _≡_ {A = ℕ} 12 0 = sym (ap (λ (v : Verdict). v .number) (says-12 s report e)) ∙ ok in
+      absurd (omega arith))
 
   accepted-refusal : refusal (s .plan) (s .constraint) (notesOf s) report .number ≡ 0
   accepted-refusal = sym (ap (λ (v : Verdict). v .number) (sound-verdict s report h accepted-sound)) ∙ ok

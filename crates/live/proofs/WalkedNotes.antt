@@ -85,7 +85,12 @@ module _ (p : Plan) (c : Constraint) (a : Accepted p c) (instant finished : ℕ)
         here : (u : ℕ) → eqb t u ≡ true → goal u
         here u e =
             subst goal (eqb-true t u e)
-            (rw (started-more t, eq-eqb t t refl, or-true (isStarted (at w) t), getD-set-same (w .starts) t instant 0 (omega (arith, r .long, task-low))) refl)
+            (rw (
+              started-more t,
+              eq-eqb t t refl,
+              or-true (isStarted (at w) t),
+              getD-set-same (w .starts) t instant 0 (omega (arith, r .long, task-low)),
+            ) refl)
 
         elsewhere : (u : ℕ) → eqb t u ≡ false → goal u
         elsewhere u e =
@@ -121,12 +126,21 @@ module _ (p : Plan) (c : Constraint) (a : Accepted p c) (instant finished : ℕ)
         record {
           few = omega arith;
           since = omega (arith, r .since);
-          new = λ u l. has-insert-low (w .fresh) t u l ∙ ap (λ (b : Bool). b || eqb t u) (r .new u l) ∙ one (isStarted (at w) u) (eqb t u) (earlier u) (fresh-yet u) ∙ sym (ap (λ (b : Bool). b && not (earlier u)) (started-more u));
+          new =
+              λ u l. has-insert-low (w .fresh) t u l ∙ ap (λ (b : Bool). b || eqb t u) (r .new u l)
+              ∙ one (isStarted (at w) u) (eqb t u) (earlier u) (fresh-yet u)
+              ∙ sym (ap (λ (b : Bool). b && not (earlier u)) (started-more u));
           small = insert-small (w .fresh) t (r .small);
-          runs = λ u l. has-insert-low (w .running) t u l ∙ ap (λ (b : Bool). b || eqb t u) (r .runs u l) ∙ rw (started-notes (at w) u, finished-notes (at w) u) (one (isStarted (at w) u) (eqb t u) (has finished u) (running-yet u)) ∙ sym (ap₂ (λ (x y : Bool). x && not y) (started-notes (at next) u ∙ started-more u) (finished-notes (at next) u));
+          runs =
+              λ u l. has-insert-low (w .running) t u l ∙ ap (λ (b : Bool). b || eqb t u) (r .runs u l)
+              ∙ rw (started-notes (at w) u, finished-notes (at w) u) (one (isStarted (at w) u) (eqb t u) (has finished u) (running-yet u))
+              ∙ sym (ap₂ (λ (x y : Bool). x && not y) (started-notes (at next) u ∙ started-more u) (finished-notes (at next) u));
           ends = λ u e. started-more u ∙ or-left (eqb t u) (r .ends u e);
           long = length-set (w .starts) t instant ∙ r .long;
-          zero = λ u e. let f = sym (started-more u) ∙ e in getD-set-other (w .starts) t u instant 0 (λ q. eqb-false t u (or-right-off (isStarted (at w) u) (eqb t u) f) (sym q)) ∙ r .zero u (or-left-off (isStarted (at w) u) (eqb t u) f);
+          zero =
+              λ u e. let f = sym (started-more u) ∙ e in
+              getD-set-other (w .starts) t u instant 0 (λ q. eqb-false t u (or-right-off (isStarted (at w) u) (eqb t u) f) (sym q))
+              ∙ r .zero u (or-left-off (isStarted (at w) u) (eqb t u) f);
         }
       where
         next : Walked
@@ -149,7 +163,8 @@ module _ (p : Plan) (c : Constraint) (a : Accepted p c) (instant finished : ℕ)
 
   -- what is left of the walk, by the sets and by the notes
   pub walk-notes : (m : ℕ) (w : Walked) → w .begun + m ≡ p .tasks → Right w
-      → let r = walkFrom (p .units) (p .predecessors) (c .order) (c .chosen) (tabulate mostTypes (typeUsers (c .order) (c .chosen) (c .len))) instant finished m w in
+      → let r = walkFrom (p .units) (p .predecessors) (c .order) (c .chosen)
+      (tabulate mostTypes (typeUsers (c .order) (c .chosen) (c .len))) instant finished m w in
       Right r × (notesOf (at r) ≡ dispatch p c (drop (w .begun) (entries c)) (notesOf (at w)))
   unfolding walkFrom dispatch t k users n
   walk-notes zero w e r =

@@ -41,7 +41,8 @@ module _ (s : State) (y : Tidy s) where
 
   -- where the walk begins
   begin : Walked
-  begin = record { begun = s .started; running = without (firstTasks (s .constraint .order) (s .started)) (s .finished); fresh = 0; starts = s .starts }
+  begin =
+      record { begun = s .started; running = without (firstTasks (s .constraint .order) (s .started)) (s .finished); fresh = 0; starts = s .starts }
 
   begin-right : Right (s .plan) (s .constraint) a (s .instant) (s .finished) (s .finishes) (s .started) begin
   unfolding begin isStarted
@@ -51,7 +52,8 @@ module _ (s : State) (y : Tidy s) where
         since = le-refl (s .started);
         runs = λ t l.
             has-without (firstTasks (s .constraint .order) (s .started)) (s .finished) t
-            ∙ ap₂ (λ (x z : Bool). x && not z) (has-first (s .constraint .order) (s .started) t l ∙ sym (started-notes s t)) (sym (finished-notes s t));
+            ∙ ap₂ (λ (x z : Bool). x && not z) (has-first (s .constraint .order) (s .started) t l ∙ sym (started-notes s t))
+            (sym (finished-notes s t));
         new = λ t l. has-none t ∙ sym (and-not-self (isStarted s t));
         small = pow-pos width;
         ends = y .finished-started;
@@ -60,13 +62,20 @@ module _ (s : State) (y : Tidy s) where
       }
 
   -- the tasks that have started are passed
-  skip : (k : ℕ) → k ≤ s .started → dispatch (s .plan) (s .constraint) (drop k (entries (s .constraint))) (notesOf s) ≡ dispatch (s .plan) (s .constraint) (entries (s .constraint)) (notesOf s)
+  skip : (k : ℕ) → k ≤ s .started
+      → dispatch (s .plan) (s .constraint) (drop k (entries (s .constraint))) (notesOf s)
+      ≡ dispatch (s .plan) (s .constraint) (entries (s .constraint)) (notesOf s)
   unfolding dispatch isStarted
   skip zero l = refl
-  skip (suc k) l = sym (ap (λ (es : List Entry). dispatch (s .plan) (s .constraint) es (notesOf s)) (entries-from (s .constraint) k (omega (arith, a .whole, y .few))) ∙ rw (started-notes s (entryAt (s .constraint .order) k), passed) refl) ∙ skip k (omega arith)
+  skip (suc k) l =
+      sym (ap (λ (es : List Entry). dispatch (s .plan) (s .constraint) es (notesOf s))
+      (entries-from (s .constraint) k (omega (arith, a .whole, y .few)))
+      ∙ rw (started-notes s (entryAt (s .constraint .order) k), passed) refl) ∙ skip k (omega arith)
     where
       passed : isStarted s (entryAt (s .constraint .order) k) ≡ true
-      passed = any-intro (s .started) (λ j. eqb (entryAt (s .constraint .order) j) (entryAt (s .constraint .order) k)) k l (eq-eqb (entryAt (s .constraint .order) k) (entryAt (s .constraint .order) k) refl)
+      passed =
+          any-intro (s .started) (λ j. eqb (entryAt (s .constraint .order) j) (entryAt (s .constraint .order) k)) k l
+          (eq-eqb (entryAt (s .constraint .order) k) (entryAt (s .constraint .order) k) refl)
 
   walked : Right (s .plan) (s .constraint) a (s .instant) (s .finished) (s .finishes) (s .started) w
       × (notesOf after ≡ dispatch (s .plan) (s .constraint) (drop (s .started) (entries (s .constraint))) (notesOf s))
@@ -97,7 +106,8 @@ module _ (s : State) (y : Tidy s) where
   fresh-set =
       set-ext width (w .fresh) _ (walked .0 .small) (setOf-small width _ (le-refl width))
       (λ t l. walked .0 .new t l
-      ∙ sym (has-setOf width _ t (le-refl width) ∙ rw (lt-ltb t width l) (ap₂ (λ (x z : Bool). x && not z) (started-notes after t) (started-notes s t))))
+      ∙ sym (has-setOf width _ t (le-refl width)
+      ∙ rw (lt-ltb t width l) (ap₂ (λ (x z : Bool). x && not z) (started-notes after t) (started-notes s t))))
 
   -- the answer of the walk
   pub walked-moved : record { number = 0; place = 0; started = w .fresh; state = after }
@@ -114,7 +124,8 @@ module _ (s : State) (y : Tidy s) where
   pub started-few : s .started ≤ mostTasks
   started-few = omega (arith, y .few, a .few-tasks)
 
-  pub entries-low : (j : ℕ) → j < s .constraint .len → (entryAt (s .constraint .order) j < mostTasks) × (entryAt (s .constraint .chosen) j < mostTypes)
+  pub entries-low : (j : ℕ) → j < s .constraint .len
+      → (entryAt (s .constraint .order) j < mostTasks) × (entryAt (s .constraint .chosen) j < mostTypes)
   entries-low j l =
       let m : j < s .plan .tasks = omega (arith, a .whole) in
       (lt-of-lt-of-le (a .task j m) (a .few-tasks), lt-of-lt-of-le (a .type j m) (a .few-types))
@@ -124,10 +135,20 @@ module _ (s : State) (y : Tidy s) where
       → first ≡ firstTasks (s .constraint .order) (s .started) → running ≡ without first (s .finished)
       → x ≡ walkFrom (s .plan .units) (s .plan .predecessors) (s .constraint .order) (s .constraint .chosen) users (s .instant) (s .finished)
       (s .constraint .len - s .started) (record { begun = s .started; running = running; fresh = 0; starts = s .starts })
-      → record { number = 0; place = 0; started = x .fresh; state = stateFrom (s .plan) (s .constraint) (s .instant) (x .begun) (s .finished) (x .starts) (s .finishes) }
+      → record {
+        number = 0;
+        place = 0;
+        started = x .fresh;
+        state = stateFrom (s .plan) (s .constraint) (s .instant) (x .begun) (s .finished) (x .starts) (s .finishes);
+      }
       ≡ moved (s .plan) (s .constraint) (notesOf s) (dispatch (s .plan) (s .constraint) (entries (s .constraint)) (notesOf s))
   unfolding walkOf
   walked-by {x = x} e f g h =
       let q : x ≡ walkOf s = h ∙ rw (e, g, f) refl in
-      ap (λ (z : Walked). record { number = 0; place = 0; started = z .fresh; state = stateFrom (s .plan) (s .constraint) (s .instant) (z .begun) (s .finished) (z .starts) (s .finishes) }) q
+      ap (λ (z : Walked). record {
+        number = 0;
+        place = 0;
+        started = z .fresh;
+        state = stateFrom (s .plan) (s .constraint) (s .instant) (z .begun) (s .finished) (z .starts) (s .finishes);
+      }) q
       ∙ walked-moved

@@ -36,8 +36,14 @@ module _ (units predecessors order chosen users : List ℕ) (instant finished : 
       unfolding walkFrom
       walk-stops g = rw (one-more, answer, not-true b g) refl
 
-      pub walk-goes : not b ≡ false → {r g : ℕ} → r ≡ insert (w .running) (entryAt order (w .begun)) → g ≡ insert (w .fresh) (entryAt order (w .begun))
-          → left (len - (w .begun + 1)) (record { begun = w .begun + 1; running = r; fresh = g; starts = set (w .starts) (entryAt order (w .begun)) instant })
+      pub walk-goes : not b ≡ false → {r g : ℕ} → r ≡ insert (w .running) (entryAt order (w .begun))
+          → g ≡ insert (w .fresh) (entryAt order (w .begun))
+          → left (len - (w .begun + 1)) (record {
+            begun = w .begun + 1;
+            running = r;
+            fresh = g;
+            starts = set (w .starts) (entryAt order (w .begun)) instant;
+          })
           ≡ left (len - w .begun) w
       unfolding walkFrom
       walk-goes h q k = rw (q, k, one-more, answer, not-false b h) refl

@@ -1,5 +1,5 @@
 -- `live::start` meets its contract. Assumes nothing.
-use mathlib.Core.Path.{_≡_, sym, ap, _∙_}
+use mathlib.Core.Path.{sym, ap, _∙_}
 use borrow.Author.Needs.{needs}
 use Rattle.plan.specs.declared.Verdict.{Verdict}
 use Rattle.live.specs.Ticks.{stayed}
@@ -20,7 +20,8 @@ walk-on-requires : tie.Need-walk-on-requires
 walk-on-requires c κs = fresh-tidy _ _ (sym (ap (λ (v : Verdict). v .number) (c .before .before .check .ensures)) ∙ c .if1 .left)
 
 returns-2 : tie.Need-returns-2
-returns-2 c = c .walk-on .ensures ∙ start-walked _ _ (sym (ap (λ (v : Verdict). v .number) (c .before .before .before .check .ensures)) ∙ c .before .if1 .left)
+returns-2 c =
+    c .walk-on .ensures ∙ start-walked _ _ (sym (ap (λ (v : Verdict). v .number) (c .before .before .before .check .ensures)) ∙ c .before .if1 .left)
 
 pub start-spec : {M : Type 1} → statement M
 start-spec =

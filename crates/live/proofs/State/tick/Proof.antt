@@ -45,13 +45,15 @@ reported-requires c κs = omega (arith, sound-instant _ (shaped (begin c)) (soun
 walk-on-requires : tie.Need-walk-on-requires
 walk-on-requires c κs =
     let e = c .before in
-    subst Tidy (sym (c .reported .ensures)) (reported-tidy _ (shaped (begin e)) (sound e) _ (word (begin e)) (accepted-idle _ _ (shaped (begin e)) (word (begin e)) (taken e)))
+    subst Tidy (sym (c .reported .ensures))
+    (reported-tidy _ (shaped (begin e)) (sound e) _ (word (begin e)) (accepted-idle _ _ (shaped (begin e)) (word (begin e)) (taken e)))
 
 returns-2 : tie.Need-returns-2
 returns-2 c =
     let e = c .before .before in
     c .walk-on .ensures
-    ∙ ap (λ (s : State). moved (s .plan) (s .constraint) (notesOf s) (dispatch (s .plan) (s .constraint) (entries (s .constraint)) (notesOf s))) (c .before .reported .ensures)
+    ∙ ap (λ (s : State). moved (s .plan) (s .constraint) (notesOf s)
+    (dispatch (s .plan) (s .constraint) (entries (s .constraint)) (notesOf s))) (c .before .reported .ensures)
     ∙ accepted-moved _ _ (shaped (begin e)) (word (begin e)) (taken e)
 
 pub tick-spec : {M : Type 1} → statement M

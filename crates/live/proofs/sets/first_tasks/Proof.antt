@@ -34,7 +34,9 @@ loop-less : tie.Need-loop-less Inv-loop μ-loop
 loop-less c = search needs
 
 loop-again : tie.Need-loop-again Inv-loop μ-loop
-loop-again c = upto-more (c .before .before .loop-test .taken) (tasks-step _ _ (λ j. true) (c .before .before .before .loop .inv .is) refl (c .inserted .ensures))
+loop-again c =
+    upto-more (c .before .before .loop-test .taken)
+    (tasks-step _ _ (λ j. true) (c .before .before .before .loop .inv .is) refl (c .inserted .ensures))
 
 returns : tie.Need-returns Inv-loop μ-loop
 returns c = upto-end (c .before .loop .inv) (c .loop-test .left) ∙ first-all _ _

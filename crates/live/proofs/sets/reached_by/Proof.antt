@@ -13,7 +13,8 @@ use Rattle.live.proofs.sets.reached_by.Statement.{statement}
 use Rattle.live.proofs.sets.reached_by.Tie as tie
 
 abbrev Inv-loop : tie.InvT-loop
-Inv-loop times starts order chosen n instant s₀ i₀ s i = Upto (λ (n : ℕ). tasksAt order n (λ j. leb (getD starts (entryAt order j) 0 + timeOf times (entryAt order j) (entryAt chosen j)) instant)) n i s
+Inv-loop times starts order chosen n instant s₀ i₀ s i =
+    Upto (λ (n : ℕ). tasksAt order n (λ j. leb (getD starts (entryAt order j) 0 + timeOf times (entryAt order j) (entryAt chosen j)) instant)) n i s
 
 abbrev μ-loop : tie.MeasureT-loop
 μ-loop times starts order chosen n instant s₀ i₀ s i = n - i

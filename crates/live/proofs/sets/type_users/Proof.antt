@@ -41,10 +41,14 @@ inserted-requires : tie.Need-inserted-requires Inv-loop μ-loop
 inserted-requires c κs = search needs
 
 mul-users : tie.Need-mul-users Inv-loop μ-loop
-mul-users c = let l = c .before .before .before .before .before .pre .1 (c .before .before .before .before .loop .i) (c .before .before .before .loop-test .taken) in search needs
+mul-users c =
+    let l = c .before .before .before .before .before .pre .1 (c .before .before .before .before .loop .i)
+    (c .before .before .before .loop-test .taken) in search needs
 
 array-write-users : tie.Need-array-write-users Inv-loop μ-loop
-array-write-users c = let l = c .before .before .before .before .before .pre .1 (c .before .before .before .before .loop .i) (c .before .before .before .loop-test .taken) in search needs
+array-write-users c =
+    let l = c .before .before .before .before .before .pre .1 (c .before .before .before .before .loop .i)
+    (c .before .before .before .loop-test .taken) in search needs
 
 add-i : tie.Need-add-i Inv-loop μ-loop
 add-i c = search needs
@@ -53,7 +57,11 @@ loop-less : tie.Need-loop-less Inv-loop μ-loop
 loop-less c = search needs
 
 loop-again : tie.Need-loop-again Inv-loop μ-loop
-loop-again c = let l = c .before .before .before .before in upto-more (c .before .before .before .loop-test .taken) (users-more _ _ _ (l .before .pre .1 (l .loop .i) (c .before .before .before .loop-test .taken)) (l .loop .inv .is) (c .inserted .ensures))
+loop-again c =
+    let l = c .before .before .before .before in
+    upto-more (c .before .before .before .loop-test .taken)
+    (users-more _ _ _ (l .before .pre .1 (l .loop .i) (c .before .before .before .loop-test .taken)) (l .loop .inv .is)
+    (c .inserted .ensures))
 
 returns : tie.Need-returns Inv-loop μ-loop
 returns c = upto-end (c .before .loop .inv) (c .loop-test .left)

@@ -12,7 +12,8 @@ use Rattle.live.proofs.sound.all_times_fit.Statement.{statement}
 use Rattle.live.proofs.sound.all_times_fit.Tie as tie
 
 abbrev Inv-loop : tie.InvT-loop
-Inv-loop starts finishes begun finished instant ok₀ t₀ ok t = Upto (λ (n : ℕ). all n (allTimesFit starts finishes begun finished instant)) mostTasks t ok
+Inv-loop starts finishes begun finished instant ok₀ t₀ ok t =
+    Upto (λ (n : ℕ). all n (allTimesFit starts finishes begun finished instant)) mostTasks t ok
 
 abbrev μ-loop : tie.MeasureT-loop
 μ-loop starts finishes begun finished instant ok₀ t₀ ok t = mostTasks - t

@@ -1,5 +1,5 @@
 -- `live::step::reported` meets its contract. Assumes nothing.
-use mathlib.Core.Path.{ap, refl}
+use mathlib.Core.Path.{refl}
 use borrow.Author.Needs.{needs}
 use Rattle.live.proofs.step.reported.Statement.{statement}
 use Rattle.live.proofs.step.reported.Tie as tie

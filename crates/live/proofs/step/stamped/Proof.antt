@@ -1,6 +1,5 @@
 -- `live::step::stamped` meets its contract: the stamps of the tasks passed are set. Assumes nothing.
-use mathlib.Core.Path.{ap, _∙_, refl}
-use mathlib.Core.Bool.{Bool, cond}
+use mathlib.Core.Path.{_∙_, refl}
 use Prim.Native.Nat.{ℕ, _-_}
 use borrow.Author.Needs.{needs}
 use Rattle.task_set.proofs.Upto.{Upto, upto-none, upto-more, upto-end}
@@ -12,7 +11,8 @@ use Rattle.live.proofs.step.stamped.Statement.{statement}
 use Rattle.live.proofs.step.stamped.Tie as tie
 
 abbrev Inv-loop : tie.InvT-loop
-Inv-loop finishes report instant stamps₀ t₀ stamps t = Upto (λ (i : ℕ). tabulate mostTasks (filled (stampAt finishes report instant) i)) mostTasks t stamps
+Inv-loop finishes report instant stamps₀ t₀ stamps t =
+    Upto (λ (i : ℕ). tabulate mostTasks (filled (stampAt finishes report instant) i)) mostTasks t stamps
 
 abbrev μ-loop : tie.MeasureT-loop
 μ-loop finishes report instant stamps₀ t₀ stamps t = mostTasks - t

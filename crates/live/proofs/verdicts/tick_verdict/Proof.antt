@@ -1,5 +1,5 @@
 -- `live::verdicts::tick_verdict` meets its contract. Assumes nothing.
-use mathlib.Core.Path.{_≡_, sym, ap, _∙_}
+use mathlib.Core.Path.{_≡_, sym, _∙_}
 use mathlib.Core.Bool.{true, false}
 use Prim.Native.Nat.{_<_, _^_}
 use native.Mathlib.Omega.{arith}
@@ -63,7 +63,10 @@ refused-requires-2 : tie.Need-refused-requires-2
 refused-requires-2 c κs = search needs
 
 returns-2 : tie.Need-returns-2
-returns-2 c = c .refused2 .ensures ∙ sym (says-13 _ _ (shaped (begin (c .before .before .before .before .before .before))) (sound (c .before .before .before .before .before .before)) (over-notes _ ∙ sym (c .before .before .is-over .ensures) ∙ c .before .if2 .taken))
+returns-2 c =
+    c .refused2 .ensures ∙ sym (says-13 _ _ (shaped (begin (c .before .before .before .before .before .before)))
+    (sound (c .before .before .before .before .before .before))
+    (over-notes _ ∙ sym (c .before .before .is-over .ensures) ∙ c .before .if2 .taken))
 
 first-tasks-requires : tie.Need-first-tasks-requires
 first-tasks-requires c κs = started-low _ (passed (first (c .before .before)))
@@ -80,7 +83,8 @@ refused-at-requires c κs = search needs
 returns-3 : tie.Need-returns-3
 returns-3 c =
     let d = c .before .before in
-    c .refused-at .ensures ∙ sym (says-14 _ _ (shaped (begin (first (second d)))) (sound (first (second d))) (goes-on (second d)) (word (begin (first (second d))))
+    c .refused-at .ensures ∙ sym (says-14 _ _ (shaped (begin (first (second d)))) (sound (first (second d))) (goes-on (second d))
+    (word (begin (first (second d))))
     (d .before .before .first-tasks .ensures) (d .before .difference .ensures) (d .difference2 .ensures) (c .before .if3 .taken))
 
 cast-next : tie.Need-cast-next
@@ -90,7 +94,10 @@ add-next : tie.Need-add-next
 add-next c = search needs
 
 reached-by-requires : tie.Need-reached-by-requires
-reached-by-requires c κs = let s = passed (c .before .before .before .before .before .before .before .before .before .before .before .before .before .before .before .before .before .before) in (started-low _ s, entries-low _ s)
+reached-by-requires c κs =
+    let b = c .before .before .before .before .before .before .before .before .before in
+    let s = passed (b .before .before .before .before .before .before .before .before .before) in
+    (started-low _ s, entries-low _ s)
 
 difference-requires-3 : tie.Need-difference-requires-3
 difference-requires-3 c κs = search needs
@@ -103,12 +110,16 @@ returns-4 c =
     let d = c .before .before in
     let k = third d in
     c .refused-at2 .ensures
-    ∙ sym (says-15 _ _ (shaped (begin (first (second (k .before))))) (sound (first (second (k .before)))) (goes-on (second (k .before))) (word (begin (first (second (k .before)))))
+    ∙ sym (says-15 _ _ (shaped (begin (first (second (k .before))))) (sound (first (second (k .before)))) (goes-on (second (k .before)))
+    (word (begin (first (second (k .before)))))
     (k .before .before .before .first-tasks .ensures) (k .before .before .difference .ensures) (k .before .difference2 .ensures) (k .if3 .left)
     (d .before .reached-by .ensures) (d .difference3 .ensures) (c .before .if4 .taken))
 
 reached-by-requires-2 : tie.Need-reached-by-requires-2
-reached-by-requires-2 c κs = let s = passed (c .before .before .before .before .before .before .before .before .before .before .before .before .before .before .before .before .before .before .before .before .before .before .before .before .before .before .before) in (started-low _ s, entries-low _ s)
+reached-by-requires-2 c κs =
+    let b = c .before .before .before .before .before .before .before .before .before .before .before .before .before .before in
+    let s = passed (b .before .before .before .before .before .before .before .before .before .before .before .before .before) in
+    (started-low _ s, entries-low _ s)
 
 difference-requires-4 : tie.Need-difference-requires-4
 difference-requires-4 c κs = search needs
@@ -122,7 +133,8 @@ returns-5 c =
     let m = fourth d in
     let k = third (m .before) in
     c .refused-at3 .ensures
-    ∙ sym (says-16 _ _ (shaped (begin (first (second (k .before))))) (sound (first (second (k .before)))) (goes-on (second (k .before))) (word (begin (first (second (k .before)))))
+    ∙ sym (says-16 _ _ (shaped (begin (first (second (k .before))))) (sound (first (second (k .before)))) (goes-on (second (k .before)))
+    (word (begin (first (second (k .before)))))
     (k .before .before .before .first-tasks .ensures) (k .before .before .difference .ensures) (k .before .difference2 .ensures) (k .if3 .left)
     (m .before .before .reached-by .ensures) (m .before .difference3 .ensures) (m .if4 .left)
     (d .before .reached-by2 .ensures) (d .difference4 .ensures) (omega arith) (c .before .if5 .taken))
@@ -136,7 +148,8 @@ returns-6 c =
     let m = fourth d in
     let k = third (m .before) in
     c .refused3 .ensures
-    ∙ sym (accepts _ _ (shaped (begin (first (second (k .before))))) (sound (first (second (k .before)))) (goes-on (second (k .before))) (word (begin (first (second (k .before)))))
+    ∙ sym (accepts _ _ (shaped (begin (first (second (k .before))))) (sound (first (second (k .before)))) (goes-on (second (k .before)))
+    (word (begin (first (second (k .before)))))
     (k .before .before .before .first-tasks .ensures) (k .before .before .difference .ensures) (k .before .difference2 .ensures) (k .if3 .left)
     (m .before .before .reached-by .ensures) (m .before .difference3 .ensures) (m .if4 .left)
     (d .before .reached-by2 .ensures) (d .difference4 .ensures) (omega arith) (c .before .if5 .left))

@@ -1,5 +1,4 @@
 -- `live::walk::walk_on` meets its contract. Assumes nothing.
-use Prim.Native.Nat.{ℕ}
 use borrow.Author.Needs.{needs}
 use Rattle.live.proofs.WalkedStates.{len-few, started-few, entries-low, walked-by}
 use Rattle.live.proofs.walk.walk_on.Statement.{statement}
@@ -15,10 +14,20 @@ difference-requires : tie.Need-difference-requires
 difference-requires c κs = search needs
 
 walk-requires : tie.Need-walk-requires
-walk-requires c κs = let s = c .before .before .before .before .before .before .before .before .before .before .before .before .before .before .before .before .before .before in (len-few _ (s .pre), entries-low _ (s .pre))
+walk-requires c κs =
+    let b = c .before .before .before .before .before .before .before .before .before in
+    let s = b .before .before .before .before .before .before .before .before .before in
+    (len-few _ (s .pre), entries-low _ (s .pre))
 
 returns : tie.Need-returns
-returns c = walked-by _ (c .before .before .before .before .before .before .before .before .before .before .before .before .before .before .before .before .before .before .before .before .before .pre) (c .before .before .before .before .before .before .before .before .before .before .before .before .before .before .before .type-users .ensures) (c .before .before .before .before .before .before .before .before .before .before .before .before .first-tasks .ensures) (c .before .before .before .before .before .before .before .before .before .before .before .difference .ensures) (c .before .before .walk .ensures)
+returns c =
+    let b = c .before .before .before .before .before .before .before .before .before .before .before in
+    walked-by _
+    (b .before .before .before .before .before .before .before .before .before .before .pre)
+    (c .before .before .before .before .before .before .before .before .before .before .before .before .before .before .before .type-users .ensures)
+    (c .before .before .before .before .before .before .before .before .before .before .before .before .first-tasks .ensures)
+    (c .before .before .before .before .before .before .before .before .before .before .before .difference .ensures)
+    (c .before .before .walk .ensures)
 
 pub walk-on-spec : {M : Type 1} → statement M
 walk-on-spec =
