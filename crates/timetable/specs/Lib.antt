@@ -1,4 +1,5 @@
 -- The definitions that the contracts of `timetable` cite.
 pub mod Decimal
 pub mod Table
+pub mod Refusal
 pub mod Steps

@@ -15,6 +15,9 @@ use plan::Plan;
 
 mod decimal;
 mod lines;
+mod refusal;
+
+pub use refusal::put_refusal;
 
 // The bytes written, with number and place 0; or a refusal's number and place.
 pub struct Written {

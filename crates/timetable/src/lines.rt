@@ -25,7 +25,7 @@ fn instant_of(instants: &[u32; MOST_TASKS], t: usize) -> usize
 }
 
 // Writes a number and the byte that ends it.
-fn put_field(buffer: &mut [u8], at: usize, x: usize, mark: u8) -> usize
+pub fn put_field(buffer: &mut [u8], at: usize, x: usize, mark: u8) -> usize
     requires { ⌜ Room (now buffer) at (field x mark) ⌝ }
     ensures { λ r. ⌜ Put (now (buffer .entry)) at (field x mark) (now (buffer .exit)) r ⌝ }
 {

@@ -1,0 +1,2 @@
+-- The definitions that the contract of `bench_answer` cites.
+pub mod Answer

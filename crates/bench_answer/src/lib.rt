@@ -1,0 +1,25 @@
+// The answer to a plan text: its timetable of worst times or the line of its refusal (document 01, "Timetable and program").
+ghost use mathlib.Core.Path.{_≡_};
+ghost use lib.ListN.{length};
+ghost use Rattle.bench_answer.specs.Answer.{answerText, atStart};
+
+// The longest timetable; a refusal's line is shorter.
+pub const MOST_ANSWER: usize = 1306;
+
+// Writes the answer to the text at the start of `out`, and answers its length.
+pub fn answer(text: &[u8], out: &mut [u8; MOST_ANSWER]) -> usize
+    ensures { λ r. ⌜ (r ≡ length (answerText (now (text .entry))))
+        × (now (out .exit) ≡ atStart (answerText (now (text .entry))) (now (out .entry))) ⌝ }
+{
+    let a = plan_text::read(text);
+    let number = a.number;
+    let place = a.place;
+    if number != 0 {
+        return timetable::put_refusal(number, place, out);
+    }
+    let w = timetable::worst_timetable(a.plan, a.constraint, out);
+    if w.number != 0 {
+        return timetable::put_refusal(w.number, w.place, out);
+    }
+    w.written
+}
