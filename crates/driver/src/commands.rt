@@ -1,0 +1,242 @@
+// The commands, each with its answer, and what is kept between them.
+use crate::fields;
+use crate::output;
+use crate::put;
+use live::State;
+use plan::Constraint;
+use plan::MOST_TASKS;
+use plan::Plan;
+
+const MOST_WRITTEN: usize = 2000;
+
+pub struct Kept {
+    pub plan: Plan,
+    pub constraint: Constraint,
+    pub state: State,
+}
+
+fn no_state() -> State {
+    let plan = plan::no_plan();
+    let constraint = plan::no_constraint();
+    State {
+        plan,
+        constraint,
+        instant: 0,
+        started: 0,
+        finished: 0,
+        starts: [0; MOST_TASKS],
+        finishes: [0; MOST_TASKS],
+    }
+}
+
+pub fn nothing() -> Kept {
+    let plan = plan::no_plan();
+    let constraint = plan::no_constraint();
+    let state = no_state();
+    Kept {
+        plan,
+        constraint,
+        state,
+    }
+}
+
+// A refused text comes with a plan and a constraint of zeros.
+pub fn text(s: &[u8]) -> Kept {
+    let a = plan_text::read(s);
+    output::write_verdict(b"read", a.number, a.place);
+    let plan = a.plan;
+    let constraint = a.constraint;
+    let state = no_state();
+    Kept {
+        plan,
+        constraint,
+        state,
+    }
+}
+
+pub fn bad() {
+    output::write_text(b"bad");
+}
+
+// A line: a letter, and fields of which each letter has its count.
+pub fn line(k: Kept, s: &[u8]) -> Kept {
+    if s.len() == 0 {
+        bad();
+        return k;
+    }
+    let letter = s[0];
+    let mut values = [0u64; fields::MOST];
+    let f = fields::scanned(s, 1, 0, &mut values);
+    if !f.ok {
+        bad();
+        return k;
+    }
+    let count = f.count;
+    if letter == b'M' {
+        simulate(k, &values, count);
+        return k;
+    }
+    match count {
+        0 => bare(k, letter),
+        1 => with_one(k, letter, values[0]),
+        3 => with_three(k, letter, values[0], values[1], values[2]),
+        _ => neither(k),
+    }
+}
+
+fn neither(k: Kept) -> Kept {
+    bad();
+    k
+}
+
+// The commands without fields.
+fn bare(k: Kept, letter: u8) -> Kept {
+    match letter {
+        b'K' => check(k),
+        b'B' => bound(k),
+        b'S' => start(k),
+        b'Q' => state(k),
+        _ => neither(k),
+    }
+}
+
+fn with_one(k: Kept, letter: u8, value: u64) -> Kept {
+    match letter {
+        b'T' => tick(k, value),
+        b'W' => timetable(k, value),
+        _ => neither(k),
+    }
+}
+
+fn with_three(k: Kept, letter: u8, part: u64, index: u64, value: u64) -> Kept {
+    if !put::is_put(part, index, value) {
+        return neither(k);
+    }
+    let i = index as usize;
+    match letter {
+        b'P' => put_kept(k, part, i, value),
+        b'R' => put_state(k, part, i, value),
+        _ => neither(k),
+    }
+}
+
+fn check(k: Kept) -> Kept {
+    let v = plan::check(k.plan, k.constraint);
+    output::write_verdict(b"check", v.number, v.place);
+    k
+}
+
+fn bound(k: Kept) -> Kept {
+    let s = simulation::bound(k.plan, k.constraint);
+    output::write_valued(b"bound", s.number, s.place, s.response as u64);
+    k
+}
+
+fn simulate(k: Kept, values: &[u64; fields::MOST], count: usize) {
+    let mut times = [0u32; fields::MOST];
+    if !fields::narrowed(values, &mut times, count) {
+        bad();
+        return;
+    }
+    simulate_first(k, &times, count);
+}
+
+// The first n times, or all of them where there are fewer.
+fn front(times: &[u32], n: usize) -> &[u32] {
+    if n <= times.len() {
+        return &times[..n];
+    }
+    times
+}
+
+fn simulate_first(k: Kept, times: &[u32; fields::MOST], count: usize) {
+    let first = front(times, count);
+    let s = simulation::simulate(k.plan, k.constraint, first);
+    let starts = s.starts;
+    let finishes = s.finishes;
+    let mut out = [0u8; output::WIDTH];
+    let a = output::put_verdict(&mut out, b"simulate", s.number, s.place);
+    let b = output::put_number(&mut out, a, s.response as u64);
+    let e = output::put_times(&mut out, b, &starts, &finishes);
+    output::write_line(&mut out, e);
+}
+
+fn with_run(k: Kept, state: State) -> Kept {
+    let plan = k.plan;
+    let constraint = k.constraint;
+    Kept {
+        plan,
+        constraint,
+        state,
+    }
+}
+
+fn start(k: Kept) -> Kept {
+    let t = live::start(k.plan, k.constraint);
+    output::write_valued(b"start", t.number, t.place, t.started);
+    with_run(k, t.state)
+}
+
+fn tick(k: Kept, report: u64) -> Kept {
+    let state = k.state;
+    let t = state.tick(report);
+    output::write_valued(b"tick", t.number, t.place, t.started);
+    with_run(k, t.state)
+}
+
+fn state(k: Kept) -> Kept {
+    let s = k.state;
+    let starts = s.starts;
+    let finishes = s.finishes;
+    let mut out = [0u8; output::WIDTH];
+    let a = output::put_text(&mut out, 0, b"state");
+    let b = output::put_number(&mut out, a, s.instant as u64);
+    let c = output::put_number(&mut out, b, s.started as u64);
+    let d = output::put_number(&mut out, c, s.finished);
+    let e = output::put_times(&mut out, d, &starts, &finishes);
+    output::write_line(&mut out, e);
+    k
+}
+
+fn timetable(k: Kept, n: u64) -> Kept {
+    let length = n as usize;
+    if MOST_WRITTEN < length {
+        return neither(k);
+    }
+    let mut buffer = [b'#'; MOST_WRITTEN];
+    timetable_in(k, &mut buffer, length);
+    k
+}
+
+fn timetable_in(k: Kept, buffer: &mut [u8], n: usize) {
+    if n <= buffer.len() {
+        timetable_of(k, &mut buffer[..n]);
+    }
+}
+
+fn timetable_of(k: Kept, buffer: &mut [u8]) {
+    let w = timetable::worst_timetable(k.plan, k.constraint, buffer);
+    output::write_valued(b"timetable", w.number, w.place, w.written as u64);
+    output::write_text(buffer);
+}
+
+fn put_kept(k: Kept, part: u64, i: usize, value: u64) -> Kept {
+    if put::PLAN_PARTS <= part {
+        return neither(k);
+    }
+    let plan = put::into_plan(k.plan, part, i, value);
+    let constraint = put::into_constraint(k.constraint, part, i, value);
+    let state = k.state;
+    output::write_text(b"put");
+    Kept {
+        plan,
+        constraint,
+        state,
+    }
+}
+
+fn put_state(k: Kept, part: u64, i: usize, value: u64) -> Kept {
+    let state = put::into_state(k.state, part, i, value);
+    output::write_text(b"put");
+    with_run(k, state)
+}
