@@ -1,0 +1,239 @@
+//! The driver: a text, then commands, one answer for each.
+use crate::check::check;
+use crate::plan::*;
+use crate::reader::read;
+use crate::run::Times;
+use crate::simulate::{bound, simulate};
+use crate::state::{start, State};
+use crate::timetable::of_worst_times;
+
+pub struct Driver {
+    pub plan: Plan,
+    pub constraint: Constraint,
+    pub state: State,
+    pub out: Vec<u8>,
+    /// How often each refusal was answered; entry 0 counts what was accepted.
+    pub reached: [u64; 20],
+}
+
+/// A number that `P` or `R` may put.
+pub enum Slot<'a> {
+    Short(&'a mut u32),
+    Long(&'a mut u64),
+}
+
+impl Slot<'_> {
+    pub fn get(&self) -> u64 {
+        match self {
+            Slot::Short(n) => **n as u64,
+            Slot::Long(n) => **n,
+        }
+    }
+
+    /// Puts a value; says whether it fits.
+    fn put(self, value: u64) -> bool {
+        match self {
+            Slot::Long(n) => *n = value,
+            Slot::Short(n) => match u32::try_from(value) {
+                Ok(value) => *n = value,
+                Err(_) => return false,
+            },
+        }
+        true
+    }
+}
+
+fn plan_slot<'a>(
+    plan: &'a mut Plan,
+    constraint: &'a mut Constraint,
+    part: u64,
+    index: usize,
+) -> Option<Slot<'a>> {
+    Some(match part {
+        0 if index == 0 => Slot::Long(&mut plan.types),
+        1 => Slot::Short(plan.units.get_mut(index)?),
+        2 if index == 0 => Slot::Long(&mut plan.tasks),
+        3 => Slot::Short(plan.best.get_mut(index)?),
+        4 => Slot::Short(plan.worst.get_mut(index)?),
+        5 => Slot::Long(plan.predecessors.get_mut(index)?),
+        6 if index == 0 => Slot::Long(&mut constraint.length),
+        7 => Slot::Long(constraint.task.get_mut(index)?),
+        8 => Slot::Long(constraint.kind.get_mut(index)?),
+        _ => return None,
+    })
+}
+
+fn state_slot(state: &mut State, part: u64, index: usize) -> Option<Slot<'_>> {
+    Some(match part {
+        9 if index == 0 => Slot::Short(&mut state.instant),
+        10 if index == 0 => Slot::Long(&mut state.started),
+        11 if index == 0 => Slot::Long(&mut state.finished),
+        12 => Slot::Short(state.starts.get_mut(index)?),
+        13 => Slot::Short(state.finishes.get_mut(index)?),
+        _ => return plan_slot(&mut state.plan, &mut state.constraint, part, index),
+    })
+}
+
+/// 1 to 20 digits that fit 64 bits.
+fn field(bytes: &[u8]) -> Option<u64> {
+    let digits = (1..=20).contains(&bytes.len()) && bytes.iter().all(u8::is_ascii_digit);
+    if !digits {
+        return None;
+    }
+    std::str::from_utf8(bytes).ok()?.parse().ok()
+}
+
+fn short(field: &u64) -> Option<u32> {
+    u32::try_from(*field).ok()
+}
+
+impl Driver {
+    /// Reads the text and answers for it.
+    pub fn new(text: &[u8]) -> Driver {
+        let mut driver = Driver {
+            plan: Plan::zero(),
+            constraint: Constraint::zero(),
+            state: State::zero(),
+            out: Vec::new(),
+            reached: [0; 20],
+        };
+        let answer = read(text);
+        driver.say("read", answer.as_ref().err(), &[]);
+        if let Ok((plan, constraint)) = answer {
+            driver.plan = plan;
+            driver.constraint = constraint;
+        }
+        driver
+    }
+
+    /// The number that a command `P` or `R` names.
+    pub fn slot(&mut self, letter: u8, part: u64, index: u64) -> Option<Slot<'_>> {
+        let index = usize::try_from(index).ok()?;
+        match letter {
+            b'P' => plan_slot(&mut self.plan, &mut self.constraint, part, index),
+            _ => state_slot(&mut self.state, part, index),
+        }
+    }
+
+    /// Carries out one line and answers it.
+    pub fn command(&mut self, line: &[u8]) {
+        if self.obey(line).is_none() {
+            self.line("bad", &[]);
+        }
+    }
+
+    fn obey(&mut self, line: &[u8]) -> Option<()> {
+        let mut parts = line.split(|&b| b == b'\t');
+        let &[letter] = parts.next()? else { return None };
+        let fields: Vec<u64> = parts.map(field).collect::<Option<_>>()?;
+        match (letter, &fields[..]) {
+            (b'K', []) => self.check(),
+            (b'B', []) => self.bound(),
+            (b'S', []) => self.start(),
+            (b'Q', []) => self.query(),
+            (b'M', times) if times.len() <= 80 => {
+                let times: Vec<u32> = times.iter().map(short).collect::<Option<_>>()?;
+                self.simulate(&times);
+            }
+            (b'T', &[report]) => self.tick(report),
+            (b'W', &[length]) if length <= 2_000 => self.timetable(length as usize),
+            (b'P' | b'R', &[part, index, value]) => {
+                let fits = self.slot(letter, part, index)?.put(value);
+                fits.then(|| self.line("put", &[]))?;
+            }
+            _ => return None,
+        }
+        Some(())
+    }
+
+    fn line(&mut self, name: &str, fields: &[u64]) {
+        self.out.extend_from_slice(name.as_bytes());
+        for field in fields {
+            self.out.extend_from_slice(format!("\t{field}").as_bytes());
+        }
+        self.out.push(b'\n');
+    }
+
+    /// A line with number and place, then the other fields.
+    fn say(&mut self, name: &str, refusal: Option<&Refusal>, rest: &[u64]) {
+        let (number, place) = refusal.map_or((0, 0), |r| (r.number, r.place));
+        self.reached[number as usize] += 1;
+        let mut fields = vec![number, place];
+        fields.extend_from_slice(rest);
+        self.line(name, &fields);
+    }
+
+    fn check(&mut self) {
+        let answer = check(&self.plan, &self.constraint);
+        self.say("check", answer.err().as_ref(), &[]);
+    }
+
+    fn bound(&mut self) {
+        let answer = bound(&self.plan, &self.constraint);
+        let response = answer.as_ref().map_or(0, |t| t.response as u64);
+        self.say("bound", answer.err().as_ref(), &[response]);
+    }
+
+    fn simulate(&mut self, times: &[u32]) {
+        let answer = simulate(&self.plan, &self.constraint, times);
+        let zero = Times::zero();
+        let run = answer.as_ref().unwrap_or(&zero);
+        let mut rest = vec![run.response as u64];
+        rest.extend(starts_and_finishes(&run.starts, &run.finishes));
+        self.say("simulate", answer.as_ref().err(), &rest);
+    }
+
+    fn start(&mut self) {
+        let (state, answer) = start(&self.plan, &self.constraint);
+        self.state = state;
+        self.say("start", answer.err().as_ref(), &[answer.unwrap_or(0)]);
+    }
+
+    fn tick(&mut self, report: u64) {
+        let state = std::mem::replace(&mut self.state, State::zero());
+        let (state, answer) = state.tick(report);
+        self.state = state;
+        self.say("tick", answer.err().as_ref(), &[answer.unwrap_or(0)]);
+    }
+
+    fn query(&mut self) {
+        let s = &self.state;
+        let mut fields = vec![s.instant as u64, s.started, s.finished];
+        fields.extend(starts_and_finishes(&s.starts, &s.finishes));
+        self.line("state", &fields);
+    }
+
+    fn timetable(&mut self, length: usize) {
+        let mut buffer = vec![b'#'; length];
+        let answer = of_worst_times(&self.plan, &self.constraint, &mut buffer);
+        self.say("timetable", answer.err().as_ref(), &[answer.unwrap_or(0)]);
+        self.out.extend_from_slice(&buffer);
+        self.out.push(b'\n');
+    }
+}
+
+/// Start and finish of task 0, of task 1, and so on.
+fn starts_and_finishes(starts: &[u32; TASKS], finishes: &[u32; TASKS]) -> Vec<u64> {
+    (0..TASKS).flat_map(|t| [starts[t] as u64, finishes[t] as u64]).collect()
+}
+
+/// A whole session: a line with the count of bytes, the text, the commands.
+/// A first line that is no count is answered `bad`, and nothing else is done.
+pub fn session(input: &[u8]) -> Driver {
+    let end = input.iter().position(|&b| b == b'\n').unwrap_or(input.len());
+    let Some(count) = field(&input[..end]) else {
+        let mut driver = Driver::new(&[]);
+        driver.out = b"bad\n".to_vec();
+        return driver;
+    };
+    let rest = input.get(end + 1..).unwrap_or(&[]);
+    let (text, commands) = rest.split_at(rest.len().min(count as usize));
+    let mut driver = Driver::new(text);
+    let mut lines: Vec<&[u8]> = commands.split(|&b| b == b'\n').collect();
+    // After the last newline there is no line; without it, one if not empty.
+    lines.pop_if(|last| last.is_empty());
+    for line in lines {
+        driver.command(line);
+    }
+    driver
+}

@@ -1,0 +1,15 @@
+//! A rival implementation of bench plans, written from document 01 alone.
+pub mod check;
+pub mod compare;
+pub mod driver;
+pub mod fast;
+pub mod generate;
+pub mod journal;
+pub mod plan;
+pub mod random;
+pub mod reader;
+pub mod run;
+pub mod simulate;
+pub mod state;
+pub mod texts;
+pub mod timetable;

@@ -1,0 +1,77 @@
+//! The plan, the constraint and the refusal.
+
+pub const TYPES: usize = 8;
+pub const TASKS: usize = 64;
+pub const PAIRS: usize = TASKS * TYPES;
+
+#[derive(Clone, PartialEq, Eq, Debug)]
+pub struct Plan {
+    pub types: u64,
+    pub units: [u32; TYPES],
+    pub tasks: u64,
+    pub best: [u32; PAIRS],
+    pub worst: [u32; PAIRS],
+    /// Bit p of entry t: task t waits for task p.
+    pub predecessors: [u64; TASKS],
+}
+
+/// The execution order and the one type that each task may use.
+#[derive(Clone, PartialEq, Eq, Debug)]
+pub struct Constraint {
+    pub length: u64,
+    pub task: [u64; TASKS],
+    pub kind: [u64; TASKS],
+}
+
+#[derive(Clone, Copy, PartialEq, Eq, Debug)]
+pub struct Refusal {
+    pub number: u64,
+    pub place: u64,
+}
+
+pub fn refuse<T>(number: u64, place: u64) -> Result<T, Refusal> {
+    Err(Refusal { number, place })
+}
+
+impl Plan {
+    pub fn zero() -> Plan {
+        Plan {
+            types: 0,
+            units: [0; TYPES],
+            tasks: 0,
+            best: [0; PAIRS],
+            worst: [0; PAIRS],
+            predecessors: [0; TASKS],
+        }
+    }
+}
+
+impl Constraint {
+    pub fn zero() -> Constraint {
+        Constraint { length: 0, task: [0; TASKS], kind: [0; TASKS] }
+    }
+
+    /// The chosen type of each task, by task number. Only for accepted constraints.
+    pub fn chosen(&self) -> [usize; TASKS] {
+        let mut chosen = [0; TASKS];
+        for p in 0..self.length as usize {
+            chosen[self.task[p] as usize] = self.kind[p] as usize;
+        }
+        chosen
+    }
+}
+
+/// Where the pair of a task and a type stands.
+pub fn pair(task: usize, kind: usize) -> usize {
+    task * TYPES + kind
+}
+
+/// The set of the tasks 0 to n - 1, n at most 64.
+pub fn first_tasks(n: u64) -> u64 {
+    if n >= 64 { u64::MAX } else { (1 << n) - 1 }
+}
+
+/// The task numbers of a set, lowest first.
+pub fn members(set: u64) -> impl Iterator<Item = usize> {
+    (0..TASKS).filter(move |t| set >> t & 1 == 1)
+}

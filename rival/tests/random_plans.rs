@@ -1,0 +1,89 @@
+//! What must agree on random plans: the two simulations, the journal and the live run.
+use rival::journal::{Journal, Progress};
+use rival::plan::*;
+use rival::random::Random;
+use rival::reader::read;
+use rival::simulate::{bound, worst_times};
+use rival::state::{start, State};
+use rival::texts::sound_lines;
+
+fn sound_plan(random: &mut Random) -> (Plan, Constraint) {
+    let text = sound_lines(random).join("\n") + "\n";
+    read(text.as_bytes()).unwrap()
+}
+
+#[test]
+fn both_simulations_agree() {
+    let mut random = Random::new(1);
+    for _ in 0..1_000 {
+        let (plan, constraint) = sound_plan(&mut random);
+        let mut times = [0; TASKS];
+        for (time, worst) in times.iter_mut().zip(worst_times(&plan, &constraint)) {
+            *time = worst;
+        }
+        let slow = bound(&plan, &constraint).unwrap();
+        assert_eq!(slow, rival::fast::run(&plan, &constraint, &times));
+    }
+}
+
+/// The state has the journal's notes.
+fn same_notes(state: &State, journal: &Journal) {
+    let started = journal.start.iter().flatten().count() as u64;
+    let finished = (0..TASKS).filter(|&t| journal.finish[t].is_some());
+    assert_eq!(state.instant, journal.instant);
+    assert_eq!(state.started, started);
+    assert_eq!(state.finished, finished.fold(0, |set, t| set | 1 << t));
+    assert_eq!(state.starts, journal.start.map(|s| s.unwrap_or(0)));
+    assert_eq!(state.finishes, journal.finish.map(|f| f.unwrap_or(0)));
+}
+
+fn some_report(random: &mut Random, state: &State) -> u64 {
+    match random.below(8) {
+        0 => random.number(),
+        1 => 1 << random.below(64),
+        2 => 0,
+        3 => state.running(),
+        _ => state.running() & random.number(),
+    }
+}
+
+#[test]
+fn ticks_are_the_journals() {
+    let mut random = Random::new(2);
+    for _ in 0..300 {
+        let (plan, constraint) = sound_plan(&mut random);
+        let (mut state, answer) = start(&plan, &constraint);
+        let (mut journal, opened) = Journal::open(&plan, &constraint);
+        assert_eq!(answer, Ok(opened));
+        for _ in 0..100 {
+            let report = some_report(&mut random, &state);
+            let (next, answer) = state.tick(report);
+            state = next;
+            assert_eq!(answer, journal.report(report));
+            same_notes(&state, &journal);
+        }
+    }
+}
+
+/// Every task is at least as far as in the run of worst times, and the run ends in time.
+#[test]
+fn no_run_is_later_than_the_bound() {
+    let mut random = Random::new(3);
+    for _ in 0..300 {
+        let (plan, constraint) = sound_plan(&mut random);
+        let worst = bound(&plan, &constraint).unwrap();
+        let (mut journal, _) = Journal::open(&plan, &constraint);
+        for _ in 0..300 {
+            let running = journal.tasks(Progress::Running);
+            let report = running.iter().fold(0, |set, t| set | (random.below(2) << t));
+            let _ = journal.report(report);
+            for t in 0..plan.tasks as usize {
+                let started = worst.starts[t] <= journal.instant;
+                let finished = worst.finishes[t] <= journal.instant;
+                assert!(!started || journal.progress(t) >= Progress::Running);
+                assert!(!finished || journal.progress(t) == Progress::Finished);
+            }
+        }
+        assert!(journal.instant <= worst.response);
+    }
+}
