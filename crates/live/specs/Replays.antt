@@ -43,7 +43,7 @@ replayed p c reports enough =
 abbrev pub room : List ℕ → List ℕ → Bool
 room reports buffer = leb (length reports) (length buffer)
 
--- what replay promises, of its answer and of every number in its buffers, "as many as the ticks"; and the one claim
+-- what replay promises: its answer, every number in its buffers afterwards, and the one claim
 pub record Replays
     (p : Plan)
     (c : Constraint)
