@@ -5,4 +5,3 @@ pub mod ByTask
 pub mod Reached
 pub mod Handed
 pub mod Answers
-pub mod Bounded

@@ -34,46 +34,37 @@ rows n (e ∷ rest) = row n e ++ rows n rest
 unfoldable pub textOf : Plan → Constraint → (ℕ → ℕ) → List ℕ
 textOf p c d = rows (ended p c d) (entries c) ++ tabbed (82 ∷ []) (newlined (decimal (response p c d)))
 
--- "8 to 11, 17, 18, then 19: buffer shorter than needed, place the bytes needed"
-unfoldable pub timetableVerdict : Plan → Constraint → List ℕ → ℕ → Verdict
-timetableVerdict p c times room =
-    let needed = length (textOf p c (timeIn times)) in
-    firstRefusal (simulationVerdict p c times) (cond (ltb room needed) (refused 19 needed) accepted)
+-- ---- a text that is to be written, after the refusals v that come before it
 
--- "Accepted, it answers the bytes written"
-unfoldable pub timetabled : Plan → Constraint → List ℕ → ℕ → Written
-timetabled p c times room =
-    let v = timetableVerdict p c times room in
-    record {
-      number = v .number;
-      place = v .place;
-      written = cond (eqb (v .number) 0) (length (textOf p c (timeIn times))) 0;
-    }
-
--- the lent buffer afterwards: "bytes after them are unchanged"; "No lent buffer is altered by any refusal"
-unfoldable pub bufferAfter : Plan → Constraint → List ℕ → List ℕ → List ℕ
-bufferAfter p c times buffer =
-    let text = textOf p c (timeIn times) in
-    cond (eqb (timetableVerdict p c times (length buffer) .number) 0) (text ++ drop (length text) buffer) buffer
-
--- ---- the timetable of worst times, which the program writes
-
--- a text after the refusals that come before it: then 19
+-- "then 19: buffer shorter than needed, place the bytes needed"
 abbrev pub fitted : Verdict → List ℕ → ℕ → Verdict
 fitted v text room = firstRefusal v (cond (ltb room (length text)) (refused 19 (length text)) accepted)
 
--- what is answered, and the lent buffer afterwards, where the last verdict is v
+-- "Accepted, it answers the bytes written"
 abbrev pub answered : Verdict → List ℕ → Written
 answered v text =
     record { number = v .number; place = v .place; written = cond (eqb (v .number) 0) (length text) 0 }
 
+-- the lent buffer afterwards: "bytes after them are unchanged"; "No lent buffer is altered by any refusal"
 abbrev pub filled : Verdict → List ℕ → List ℕ → List ℕ
 filled v text buffer = cond (eqb (v .number) 0) (text ++ drop (length text) buffer) buffer
+
+-- ---- the timetable of given times: "8 to 11, 17, 18, then 19"
+
+unfoldable pub timetableVerdict : Plan → Constraint → List ℕ → ℕ → Verdict
+timetableVerdict p c times room = fitted (simulationVerdict p c times) (textOf p c (timeIn times)) room
+
+unfoldable pub timetabled : Plan → Constraint → List ℕ → ℕ → Written
+timetabled p c times room = answered (timetableVerdict p c times room) (textOf p c (timeIn times))
+
+unfoldable pub bufferAfter : Plan → Constraint → List ℕ → List ℕ → List ℕ
+bufferAfter p c times buffer = filled (timetableVerdict p c times (length buffer)) (textOf p c (timeIn times)) buffer
+
+-- ---- the timetable of worst times, which the program writes: 8 to 11, then 19
 
 unfoldable pub worstText : Plan → Constraint → List ℕ
 worstText p c = textOf p c (worst p c)
 
--- 8 to 11, then 19
 unfoldable pub worstVerdict : Plan → Constraint → ℕ → Verdict
 worstVerdict p c room = fitted (verdict p c) (worstText p c) room
 
