@@ -1,0 +1,129 @@
+//! The proved code against the rival's fast forms, measured on the same inputs.
+//!
+//! Before a measurement both must give the same answers on its input. No call
+//! can be left out: inputs and answers go through `black_box`, nothing is
+//! optimised across the archive's edge, and the rival's answers are worked out
+//! whole. The archive answers a single number each time; what it does not work
+//! out because of that cannot be seen from here.
+mod calls;
+mod measure;
+mod plans;
+
+use calls::{Answers, Input};
+use plans::Shape;
+use rival::fast;
+use rival::plan::{TASKS, TYPES};
+use rival::simulate::worst_times;
+use std::hint::black_box;
+
+/// Prints the lines and keeps those that miss their target.
+struct Table {
+    missed: Vec<String>,
+}
+
+impl Table {
+    fn line(&mut self, name: &str, (ours, rivals): (f64, f64), target: f64) {
+        let ratio = ours / rivals;
+        println!("{name:<44}{ours:>12.1}{rivals:>12.1}{ratio:>8.2}{target:>8.1}");
+        if ratio > target {
+            self.missed.push(format!("{name}: {ratio:.2}, target {target:.1}"));
+        }
+    }
+}
+
+fn read(table: &mut Table, name: &str, shape: &Shape) {
+    let text = shape.text();
+    let (plan, _) = fast::read(&text).expect("a text that is read");
+    for (at, &best) in plan.best.iter().enumerate() {
+        assert_eq!(calls::read(&text, at / TYPES, at % TYPES), best);
+    }
+    let ours = || calls::read(black_box(&text), black_box(0), black_box(0));
+    let rivals = || fast::read(black_box(&text));
+    table.line(name, measure::by_turns(ours, rivals), 2.0);
+}
+
+fn check(table: &mut Table, name: &str, shape: &Shape) {
+    let (plan, constraint) = shape.plan();
+    let input = Input::new(&plan, &constraint);
+    assert_eq!(calls::check(&input), 0);
+    assert_eq!(fast::check(&plan, &constraint), Ok(()));
+    let ours = || calls::check(black_box(&input));
+    let rivals = || fast::check(black_box(&plan), black_box(&constraint));
+    table.line(name, measure::by_turns(ours, rivals), 2.0);
+}
+
+fn simulate(table: &mut Table, name: &str, shape: &Shape) {
+    let (plan, constraint) = shape.plan();
+    let input = Input::new(&plan, &constraint);
+    let times = worst_times(&plan, &constraint);
+    let run = fast::simulate(&plan, &constraint, &times);
+    assert_eq!(run.map(|run| run.response), Ok(calls::simulate(&input, &times)));
+    let ours = || calls::simulate(black_box(&input), black_box(&times));
+    let rivals = || {
+        let (plan, constraint) = (black_box(&plan), black_box(&constraint));
+        fast::simulate(plan, constraint, black_box(&times))
+    };
+    table.line(name, measure::by_turns(ours, rivals), 2.0);
+}
+
+/// The answers are lent again and again and are not cleared in between: every
+/// replay writes every entry, as the comparison shows.
+fn replay(table: &mut Table, name: &str, shape: &Shape) {
+    let (plan, constraint) = shape.plan();
+    let input = Input::new(&plan, &constraint);
+    let reports = plans::reports(&plan, &constraint);
+    let ticks = reports.len();
+    let rivals = |answers: &mut Answers| {
+        let Answers { numbers, places, sets } = black_box(answers);
+        let (plan, constraint) = (black_box(&plan), black_box(&constraint));
+        fast::replay(plan, constraint, black_box(&reports), numbers, places, sets)
+    };
+    let ours = |answers: &mut Answers| {
+        calls::replay(black_box(&input), black_box(&reports), black_box(answers))
+    };
+    let (mut a, mut b) = (Answers::unwritten(ticks), Answers::unwritten(ticks));
+    let state = rivals(&mut b);
+    assert_eq!((state.instant as usize, state.finished), (ticks, u64::MAX));
+    assert_eq!(ours(&mut a), state.instant);
+    assert!(a == b, "{name}: the answers differ");
+    assert!(a.numbers.iter().all(|&number| number == 0), "{name}: a report is refused");
+    let (ours, rivals) = measure::by_turns(|| ours(&mut a), || rivals(&mut b));
+    let name = format!("{name}, one of {ticks} ticks");
+    table.line(&name, (ours / ticks as f64, rivals / ticks as f64), 2.0);
+}
+
+/// Ours against ours: long times must cost no more than short ones.
+fn long_times(table: &mut Table, name: &str, shape: &Shape) {
+    let (plan, constraint) = shape.plan();
+    let input = Input::new(&plan, &constraint);
+    let run = |times: &[u32; TASKS]| calls::simulate(black_box(&input), black_box(times));
+    let (short, long) = ([1; TASKS], [65_535; TASKS]);
+    assert!(run(&short) > 0);
+    assert_eq!(run(&short) * 65_535, run(&long));
+    table.line(name, measure::by_turns(|| run(&long), || run(&short)), 1.2);
+}
+
+fn main() {
+    let mut table = Table { missed: Vec::new() };
+    let t = &mut table;
+    assert!(plans::LARGEST.text().len() <= 32_768);
+    println!("{:<44}{:>12}{:>12}{:>8}{:>8}", "nanoseconds", "ours", "rival", "ratio", "target");
+    read(t, "read the largest text", &plans::LARGEST);
+    read(t, "read a text of 16 tasks", &plans::MIDDLE);
+    check(t, "check the largest plan", &plans::LARGEST);
+    check(t, "check 64 tasks, few arrows", &plans::FEW_ARROWS);
+    simulate(t, "simulate the largest plan", &plans::LARGEST);
+    simulate(t, "simulate 64 tasks, few arrows", &plans::FEW_ARROWS);
+    replay(t, "replay a chain", &plans::CHAIN);
+    replay(t, "replay all at once", &plans::WIDE);
+    replay(t, "replay a mixture", &plans::MIXED);
+    println!("{:<44}{:>12}{:>12}", "simulation, ours against ours", "of 65,535", "of 1");
+    long_times(t, "times, the largest plan", &plans::ANY_TIMES);
+    long_times(t, "times, few arrows", &plans::ANY_TIMES_FEW_ARROWS);
+    for missed in &table.missed {
+        println!("target missed: {missed}");
+    }
+    if !table.missed.is_empty() {
+        std::process::exit(1);
+    }
+}

@@ -1,0 +1,15 @@
+-- `speed::speed_simulate` meets its contract. Assumes nothing.
+use mathlib.Core.Path.{ap}
+use borrow.Author.Needs.{needs}
+use Rattle.simulation.specs.declared.Simulation.{Simulation}
+use Rattle.speed.proofs.speed_simulate.Statement.{statement}
+use Rattle.speed.proofs.speed_simulate.Tie as tie
+
+simulate-requires : tie.Need-simulate-requires
+simulate-requires c κs = search needs
+
+returns : tie.Need-returns
+returns c = ap (λ (s : Simulation). s .response) (c .simulate .ensures)
+
+pub speed-simulate-spec : {M : Type 1} → statement M
+speed-simulate-spec = tie.close (tie.spec simulate-requires returns)

@@ -1,0 +1,10 @@
+//! The same answers as the plain forms, written for speed.
+mod check;
+mod read;
+mod simulate;
+mod tick;
+
+pub use check::check;
+pub use read::read;
+pub use simulate::{run, simulate};
+pub use tick::{replay, start, tick};

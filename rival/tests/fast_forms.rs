@@ -1,0 +1,216 @@
+//! The fast forms answer as the plain ones do.
+use rival::driver::Driver;
+use rival::fast;
+use rival::plan::*;
+use rival::random::Random;
+use rival::state::{start, State, LAST_INSTANT};
+use rival::texts;
+
+/// How often each refusal was met; entry 0 counts what was accepted.
+struct Met([u64; 20]);
+
+impl Met {
+    fn note<T>(&mut self, answer: &Result<T, Refusal>) {
+        let number = answer.as_ref().err().map_or(0, |refusal| refusal.number);
+        self.0[number as usize] += 1;
+    }
+
+    fn all(&self, numbers: &[usize]) {
+        for &number in numbers {
+            assert!(self.0[number] > 0, "refusal {number} was never met");
+        }
+    }
+}
+
+#[test]
+fn read() {
+    let (mut random, mut met) = (Random::new(1), Met([0; 20]));
+    for _ in 0..2_000 {
+        let text = texts::text(&mut random);
+        let plain = rival::reader::read(&text);
+        assert_eq!(plain, fast::read(&text));
+        met.note(&plain);
+    }
+    met.all(&[0, 1, 2, 3, 4, 5, 6, 7]);
+}
+
+fn sound_plan(random: &mut Random) -> (Plan, Constraint) {
+    let text = texts::sound_lines(random).join("\n") + "\n";
+    rival::reader::read(text.as_bytes()).unwrap()
+}
+
+/// Puts something else in one place.
+fn damage(random: &mut Random, plan: &mut Plan, constraint: &mut Constraint) {
+    let value = random.pick(&[0, 1, 2, 7, 8, 9, 62, 63, 64, 65, 65_535, 65_536, 1 << 32, u64::MAX]);
+    let reach = if random.once_in(4) { 64 } else { plan.tasks.clamp(1, 64) };
+    let (p, q) = (random.below(reach) as usize, random.below(reach) as usize);
+    let kind = random.below(8) as usize;
+    match random.below(14) {
+        0 => plan.types = value,
+        1 => plan.tasks = value,
+        2 => plan.units[kind] = value as u32,
+        3 => plan.best[pair(p, kind)] = value as u32,
+        4 => plan.worst[pair(p, kind)] = value as u32,
+        5 => {
+            plan.best[pair(p, kind)] = 3;
+            plan.worst[pair(p, kind)] = 3;
+        }
+        6 => plan.best[pair(p, 0)..pair(p, 0) + TYPES].fill(0),
+        7 | 8 => plan.predecessors[p] ^= 1 << q,
+        9 => constraint.length = value,
+        10 => constraint.task[p] = value,
+        11 => constraint.task[p] = constraint.task[q],
+        12 => constraint.kind[p] = kind as u64,
+        _ => {
+            constraint.task.swap(p, q);
+            constraint.kind.swap(p, q);
+        }
+    }
+}
+
+#[test]
+fn check() {
+    let (mut random, mut met) = (Random::new(2), Met([0; 20]));
+    for _ in 0..300 {
+        let (plan, constraint) = sound_plan(&mut random);
+        for damages in [0, 1, 1, 1, 1, 1, 1, 1, 1, 2, 2, 3] {
+            let (mut plan, mut constraint) = (plan.clone(), constraint.clone());
+            for _ in 0..damages {
+                damage(&mut random, &mut plan, &mut constraint);
+            }
+            let plain = rival::check::check(&plan, &constraint);
+            assert_eq!(plain, fast::check(&plan, &constraint));
+            met.note(&plain);
+        }
+    }
+    met.all(&[0, 8, 9, 10, 11]);
+}
+
+/// A session of the generator: the text, then commands.
+fn split(input: &[u8]) -> (&[u8], impl Iterator<Item = &[u8]>) {
+    let end = input.iter().position(|&b| b == b'\n').unwrap();
+    let count: usize = std::str::from_utf8(&input[..end]).unwrap().parse().unwrap();
+    let (text, commands) = input[end + 1..].split_at(count);
+    (text, commands.split(|&b| b == b'\n'))
+}
+
+fn fields<T: std::str::FromStr>(command: &[u8]) -> Option<Vec<T>> {
+    let text = std::str::from_utf8(command).ok()?;
+    text.split('\t').skip(1).map(|field| field.parse().ok()).collect()
+}
+
+/// Both forms, on what the driver holds, for the operation that a command asks for.
+fn compare(driver: &Driver, command: &[u8], met: &mut Met) {
+    let (plan, constraint) = (&driver.plan, &driver.constraint);
+    match command.first() {
+        Some(b'S') => {
+            let plain = start(plan, constraint);
+            assert_eq!(plain, fast::start(plan, constraint));
+            met.note(&plain.1);
+        }
+        Some(b'M') => {
+            let Some(times) = fields::<u32>(command) else { return };
+            let plain = rival::simulate::simulate(plan, constraint, &times);
+            assert_eq!(plain, fast::simulate(plan, constraint, &times));
+            met.note(&plain);
+        }
+        Some(b'T') => {
+            let Some(&[report]) = fields::<u64>(command).as_deref() else { return };
+            let plain = driver.state.clone().tick(report);
+            assert_eq!(plain, fast::tick(driver.state.clone(), report));
+            met.note(&plain.1);
+        }
+        _ => {}
+    }
+}
+
+#[test]
+fn start_simulate_and_tick() {
+    let mut met = Met([0; 20]);
+    for number in 0..70 {
+        let (input, _) = rival::generate::session(1, number);
+        let (text, commands) = split(&input);
+        let mut driver = Driver::new(text);
+        for command in commands {
+            compare(&driver, command, &mut met);
+            driver.command(command);
+        }
+    }
+    met.all(&[0, 8, 12, 13, 14, 15, 16, 17, 18]);
+}
+
+/// A report that is often legal.
+fn some_report(random: &mut Random, state: &State) -> u64 {
+    match random.below(4) {
+        0 => random.number(),
+        1 => 0,
+        _ if state.started == 0 => 1,
+        _ => state.running() & random.number(),
+    }
+}
+
+/// Puts something nearby in one place of a state.
+fn alter(random: &mut Random, state: &mut State) {
+    let t = random.below(state.plan.tasks.min(63) + 1) as usize % TASKS;
+    let kind = random.below(state.plan.types) as usize;
+    let near = (state.instant + 2).saturating_sub(random.below(5) as u32);
+    match random.below(8) {
+        0 => state.instant = near,
+        1 => state.instant = LAST_INSTANT - 1 + random.below(3) as u32,
+        2 => state.started = (state.started + 1).saturating_sub(2 * random.below(2)),
+        3 => state.finished ^= 1 << t,
+        4 => state.starts[t] = near,
+        5 => state.finishes[t] = near,
+        6 => state.plan.units[kind] -= 1,
+        _ => damage(random, &mut state.plan, &mut state.constraint),
+    }
+}
+
+#[test]
+fn tick_on_altered_states() {
+    let (mut random, mut met) = (Random::new(4), Met([0; 20]));
+    for _ in 0..200 {
+        let (plan, constraint) = sound_plan(&mut random);
+        let (mut state, _) = start(&plan, &constraint);
+        for _ in 0..10 {
+            let report = some_report(&mut random, &state);
+            let mut altered = state.clone();
+            alter(&mut random, &mut altered);
+            let plain = altered.clone().tick(report);
+            assert_eq!(plain, fast::tick(altered, report));
+            met.note(&plain.1);
+            (state, _) = state.tick(report);
+        }
+    }
+    met.all(&[0, 12, 14, 15, 16]);
+}
+
+#[test]
+fn replay() {
+    let mut random = Random::new(3);
+    for _ in 0..150 {
+        let (mut plan, mut constraint) = sound_plan(&mut random);
+        if random.once_in(4) {
+            damage(&mut random, &mut plan, &mut constraint);
+        }
+        let (mut state, _) = start(&plan, &constraint);
+        let (mut reports, mut plain) = (Vec::new(), Vec::new());
+        for _ in 0..random.below(40) {
+            let report = some_report(&mut random, &state);
+            let (next, answer) = state.tick(report);
+            state = next;
+            reports.push(report);
+            plain.push(answer);
+        }
+        let n = reports.len();
+        let (mut numbers, mut places, mut sets) = (vec![99; n], vec![99; n], vec![99; n]);
+        let last =
+            fast::replay(&plan, &constraint, &reports, &mut numbers, &mut places, &mut sets);
+        assert_eq!(last, state);
+        for (i, answer) in plain.into_iter().enumerate() {
+            let refusal = answer.err().unwrap_or(Refusal { number: 0, place: 0 });
+            let fast = (numbers[i] as u64, places[i] as u64, sets[i]);
+            assert_eq!(fast, (refusal.number, refusal.place, answer.unwrap_or(0)));
+        }
+    }
+}
