@@ -2,7 +2,7 @@
 use mathlib.Core.Path.{_≡_, refl}
 use mathlib.Core.Bool.{Bool, true}
 use Prim.Native.Nat.{ℕ, zero, suc, _+_, _-_, _≤_, _<_, zero-le}
-use native.Mathlib.Nat.{le-refl, le-trans, le-antisymm, le-of-suc-le, lt-suc-self, le-of-lt, add-le-add, lt-trans, lt-of-le-of-lt}
+use native.Mathlib.Nat.{le-refl, le-trans, le-of-suc-le, lt-suc-self, le-of-lt, add-le-add, lt-trans, lt-of-le-of-lt}
 use native.Mathlib.Decide.{le-ind}
 use native.Mathlib.Omega.{arith}
 use borrow.Author.Tests.{ltb-true, ltb-false, lt-ltb}
@@ -61,15 +61,6 @@ module _ (may : Gate) (n : ℕ) (hold : ℕ → ℕ) (base : ℕ) (L : Lawful ma
   pub compare-start : (d d′ S S′ : ℕ → ℕ) → Greedy may n d S → Greedy may n d′ S′ → ((j : ℕ) → j < n → d j ≤ d′ j) → (k : ℕ) → k < n → S k ≤ S′ k
   compare-start d d′ S S′ g g′ h k l =
       omega (arith, overrun d d′ S S′ g g′ k l, sum-zero k (λ j. d j - d′ j) (λ j i. omega (arith, h j (lt-trans i l))))
-
-  pub compare-end : (d d′ S S′ : ℕ → ℕ) → Greedy may n d S → Greedy may n d′ S′ → ((j : ℕ) → j < n → d j ≤ d′ j)
-      → (k : ℕ) → k < n → ends S d k ≤ ends S′ d′ k
-  compare-end d d′ S S′ g g′ h k l = omega (arith, compare-start d d′ S S′ g g′ h k l, h k l)
-
-  -- there are no two
-  pub unique : (d S S′ : ℕ → ℕ) → Greedy may n d S → Greedy may n d S′ → (k : ℕ) → k < n → S k ≡ S′ k
-  unique d S S′ g g′ k l =
-      le-antisymm (compare-start d d S S′ g g′ (λ j i. le-refl (d j)) k l) (compare-start d d S′ S g′ g (λ j i. le-refl (d j)) k l)
 
   -- at worst one position runs after the other
   pub bound : (d S : ℕ → ℕ) → Greedy may n d S → (k : ℕ) → k < n → S k ≤ base + sum k (λ j. d j + hold j)

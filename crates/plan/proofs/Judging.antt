@@ -4,10 +4,9 @@ use mathlib.Core.Bool.{Bool, _&&_, _||_, not}
 use mathlib.Core.List.{List}
 use Prim.Native.Nat.{ℕ, _^_, _<_}
 use lib.Dec.{eqb, leb, ltb}
-use Rattle.task_set.specs.Bounded.{any}
 use Rattle.task_set.specs.Sets.{width, has, below}
 use Rattle.task_set.proofs.Members.{below-mask}
-use Rattle.plan.specs.Rules.{mostTypes, predecessorsOf, usable, pairsOk, someTypeOk, predecessorsOk, taskOk}
+use Rattle.plan.specs.Rules.{predecessorsOf, usable, predecessorsOk}
 use Rattle.plan.specs.Refusals.{entryAt, unusable}
 
 pub unusable-by : (types : ℕ) (wcet order chosen : List ℕ) (i : ℕ) {b : Bool} → b ≡ usable wcet (entryAt order i) (entryAt chosen i)
@@ -19,9 +18,3 @@ pub predecessors-ok-by : (tasks t : ℕ) (predecessors : List ℕ) {s m : ℕ} {
     → (ltb t tasks && (not h && eqb m s)) || (not (ltb t tasks) && eqb s 0) ≡ predecessorsOk tasks predecessors t
 unfolding predecessorsOk
 predecessors-ok-by tasks t predecessors {s} l e f g = rw (f, g, below-mask width s tasks l, e)
-
-pub task-ok-by : (types tasks : ℕ) (bcet wcet predecessors : List ℕ) (t : ℕ) {a b d : Bool} → a ≡ any mostTypes (usable wcet t)
-    → b ≡ pairsOk types tasks bcet wcet t → d ≡ predecessorsOk tasks predecessors t
-    → b && ((not (ltb t tasks) || a) && d) ≡ taskOk types tasks bcet wcet predecessors t
-unfolding taskOk someTypeOk
-task-ok-by types tasks bcet wcet predecessors t e f g = rw (e, f, g)

@@ -29,6 +29,10 @@ between-low a x b e = leb-true a x (and-left (leb a x) (leb x b) e)
 between-high : (a x b : ℕ) → between a x b ≡ true → x ≤ b
 between-high a x b e = leb-true x b (and-right (leb a x) (leb x b) e)
 
+pub counted-types : (types tasks : ℕ) → countsOk types tasks ≡ true → types ≤ mostTypes
+unfolding countsOk
+counted-types types tasks e = between-high 1 types mostTypes (and-left (between 1 types mostTypes) _ e)
+
 -- the best and worst time of a task on a type that it can use
 pub record Times (best worst : ℕ) : Type 0 where
   pub some : 1 ≤ best
@@ -73,8 +77,7 @@ module _ (p : Plan) (e : planOk p ≡ true) where
   some-types = between-low 1 (p .types) mostTypes (and-left (between 1 (p .types) mostTypes) _ counts)
 
   pub few-types : p .types ≤ mostTypes
-  unfolding countsOk
-  few-types = between-high 1 (p .types) mostTypes (and-left (between 1 (p .types) mostTypes) _ counts)
+  few-types = counted-types (p .types) (p .tasks) counts
 
   pub some-tasks : 1 ≤ p .tasks
   unfolding countsOk

@@ -1,12 +1,11 @@
 -- The set of the tasks that stand before a position, as the loops over the order keep it. Assumes nothing.
 use mathlib.Core.Path.{_≡_, refl, sym, ap, _∙_}
-use mathlib.Core.Bool.{Bool, true, false, _&&_, _||_, not, or-false}
+use mathlib.Core.Bool.{Bool, true, false, _&&_, _||_, not}
 use mathlib.Core.List.{List}
 use Prim.Native.Nat.{ℕ, _+_, _≤_, _<_}
 use native.Mathlib.Nat.{lt-of-lt-of-le}
-use native.Mathlib.Omega.{arith}
-use borrow.Author.Tests.{leb-false, ltb-true, ltb-false, ne-eqb}
-use lib.Dec.{eqb, leb, ltb}
+use borrow.Author.Tests.{leb-false}
+use lib.Dec.{eqb, leb}
 use Rattle.task_set.specs.Bounded.{any, implies}
 use Rattle.task_set.specs.Sets.{width, has, insert, subset}
 use Rattle.task_set.proofs.Truth.{by-test}

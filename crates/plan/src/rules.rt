@@ -1,9 +1,10 @@
-// The rules of a plan (document 01, "The plan"), one function for each.
+// The rules of a plan (document 01, "The plan").
 ghost use mathlib.Core.Path.{_≡_};
-ghost use Prim.Native.Nat.{_<_};
-ghost use Rattle.task_set.specs.Bounded.{all, any};
+ghost use Prim.Native.Nat.{_<_, _≤_};
+ghost use Rattle.task_set.specs.Bounded.{all};
 ghost use Rattle.plan.specs.Refusals.{planOf};
-ghost use Rattle.plan.specs.Rules.{countsOk, mostTasks, mostTypes, pairOk, pairsOk, planOk, predecessorsOk, someTypeOk, taskOk, unitsOk, usable};
+ghost use Rattle.plan.specs.Rules.{countsOk, mostPairs, mostTasks, mostTypes, planOk, predecessorsOk, unitsOk};
+ghost use Rattle.plan.specs.Steps.{noTypeFrom, pairFits, pairFitsAt, restOk, typesOk};
 use crate::LONGEST_TIME;
 use crate::MOST_PAIRS;
 use crate::MOST_TASKS;
@@ -11,7 +12,6 @@ use crate::MOST_TYPES;
 use crate::MOST_UNITS;
 use crate::is_usable;
 use crate::predecessors_of;
-use crate::time_of;
 
 fn counts_ok(types: usize, tasks: usize) -> bool
     ensures { λ r. ⌜ r ≡ countsOk types tasks ⌝ }
@@ -41,42 +41,50 @@ fn all_units_ok(types: usize, units: &[u32; MOST_TYPES]) -> bool
     ok
 }
 
-fn pair_ok(present: bool, best: u32, worst: u32) -> bool
-    ensures { λ r. ⌜ r ≡ pairOk present best worst ⌝ }
+// Whether a pair is 0 and 0, or 1 <= best <= worst <= LONGEST_TIME.
+fn pair_fits(best: u32, worst: u32) -> bool
+    ensures { λ r. ⌜ r ≡ pairFits best worst ⌝ }
 {
-    (best == 0) & (worst == 0)
-        | present & ((1 <= best) & ((best <= worst) & (worst <= LONGEST_TIME)))
+    (best <= worst) & ((worst <= LONGEST_TIME) & ((worst == 0) | (1 <= best)))
 }
 
-fn pairs_ok<'a>(
-    types: usize,
-    tasks: usize,
-    bcet: &'a [u32; MOST_PAIRS],
-    wcet: &'a [u32; MOST_PAIRS],
-    t: usize,
-) -> bool
-    ensures { λ r. ⌜ r ≡ pairsOk types tasks (now (bcet .entry)) (now (wcet .entry)) t ⌝ }
+// One loop over all pairs, and no branch: the compiler then tests several pairs at once.
+fn all_pairs_fit<'a>(bcet: &'a [u32; MOST_PAIRS], wcet: &'a [u32; MOST_PAIRS]) -> bool
+    ensures { λ r. ⌜ r ≡ all mostPairs (pairFitsAt (now (bcet .entry)) (now (wcet .entry))) ⌝ }
 {
     let mut ok = true;
-    let mut k = 0;
-    while k < MOST_TYPES {
-        let present = (t < tasks) & (k < types);
-        ok = ok & pair_ok(present, time_of(bcet, t, k), time_of(wcet, t, k));
-        k += 1;
+    let mut i = 0;
+    while i < MOST_PAIRS {
+        ok = ok & pair_fits(bcet[i], wcet[i]);
+        i += 1;
     }
     ok
 }
 
-fn some_type(wcet: &[u32; MOST_PAIRS], t: usize) -> bool
-    ensures { λ r. ⌜ r ≡ any mostTypes (usable (now (wcet .entry)) t) ⌝ }
+// Whether task t can use no type from n on.
+fn no_type_from(wcet: &[u32; MOST_PAIRS], t: usize, n: usize) -> bool
+    requires { ⌜ n ≤ mostTypes ⌝ }
+    ensures { λ r. ⌜ r ≡ noTypeFrom (now (wcet .entry)) t n ⌝ }
 {
-    let mut found = false;
-    let mut k = 0;
+    let mut none = true;
+    let mut k = n;
     while k < MOST_TYPES {
-        found = found | is_usable(wcet, t, k);
+        none = none & !is_usable(wcet, t, k);
         k += 1;
     }
-    found
+    none
+}
+
+// Whether task number t can use some type and no absent one, or, where it is absent, none.
+fn types_ok(types: usize, tasks: usize, wcet: &[u32; MOST_PAIRS], t: usize) -> bool
+    requires { ⌜ types ≤ mostTypes ⌝ }
+    ensures { λ r. ⌜ r ≡ typesOk types tasks (now (wcet .entry)) t ⌝ }
+{
+    let none = no_type_from(wcet, t, 0);
+    if tasks <= t {
+        return none;
+    }
+    !none & no_type_from(wcet, t, types)
 }
 
 fn predecessors_ok(tasks: usize, predecessors: &[u64; MOST_TASKS], t: usize) -> bool
@@ -88,34 +96,20 @@ fn predecessors_ok(tasks: usize, predecessors: &[u64; MOST_TASKS], t: usize) -> 
     present & (!task_set::contains(s, t) & known) | !present & (s == 0)
 }
 
-// Whether task number t, present or absent, keeps the rules.
-fn task_ok<'a>(
-    types: usize,
-    tasks: usize,
-    bcet: &'a [u32; MOST_PAIRS],
-    wcet: &'a [u32; MOST_PAIRS],
-    predecessors: &'a [u64; MOST_TASKS],
-    t: usize,
-) -> bool
-    ensures { λ r. ⌜ r ≡ taskOk types tasks (now (bcet .entry)) (now (wcet .entry)) (now (predecessors .entry)) t ⌝ }
-{
-    let some = !(t < tasks) | some_type(wcet, t);
-    pairs_ok(types, tasks, bcet, wcet, t) & (some & predecessors_ok(tasks, predecessors, t))
-}
-
+// Whether each task number, present or absent, keeps the rules of types and predecessors.
 fn all_tasks_ok<'a>(
     types: usize,
     tasks: usize,
-    bcet: &'a [u32; MOST_PAIRS],
     wcet: &'a [u32; MOST_PAIRS],
     predecessors: &'a [u64; MOST_TASKS],
 ) -> bool
-    ensures { λ r. ⌜ r ≡ all mostTasks (taskOk types tasks (now (bcet .entry)) (now (wcet .entry)) (now (predecessors .entry))) ⌝ }
+    requires { ⌜ types ≤ mostTypes ⌝ }
+    ensures { λ r. ⌜ r ≡ all mostTasks (restOk types tasks (now (wcet .entry)) (now (predecessors .entry))) ⌝ }
 {
     let mut ok = true;
     let mut t = 0;
     while t < MOST_TASKS {
-        ok = ok & task_ok(types, tasks, bcet, wcet, predecessors, t);
+        ok = ok & (types_ok(types, tasks, wcet, t) & predecessors_ok(tasks, predecessors, t));
         t += 1;
     }
     ok
@@ -133,6 +127,9 @@ pub fn plan_ok<'a>(
     ensures { λ r. ⌜ r ≡ planOk
         (planOf types (now (units .entry)) tasks (now (bcet .entry)) (now (wcet .entry)) (now (predecessors .entry))) ⌝ }
 {
-    counts_ok(types, tasks)
-        & (all_units_ok(types, units) & all_tasks_ok(types, tasks, bcet, wcet, predecessors))
+    if !counts_ok(types, tasks) {
+        return false;
+    }
+    all_units_ok(types, units)
+        & (all_pairs_fit(bcet, wcet) & all_tasks_ok(types, tasks, wcet, predecessors))
 }

@@ -122,9 +122,6 @@ module _ (p : Plan) (c : Constraint) (a : Accepted p c) (d : ℕ → ℕ) (posit
   ours-cong x y h t =
       by-test (ltb t (p .tasks)) (λ e. ap (ours t) (h t (ltb-true t (p .tasks) e))) (λ e. rw e refl)
 
-  at-entry : (j : ℕ) → j < p .tasks → at (entryAt (c .order) j) ≡ S j
-  at-entry j l = ap S (position-entry p c a j l)
-
   started-entry : (i k j : ℕ) → j < p .tasks → hasStarted (walked i k) (entryAt (c .order) j) ≡ ltb (S j) i || (leb (S j) i && ltb j k)
   started-entry i k j l =
       given-once (ours t (begun i k t)) (at t) ∙ rw (lt-ltb t (p .tasks) (a .task j l), position-entry p c a j l) refl

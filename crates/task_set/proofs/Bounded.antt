@@ -1,9 +1,9 @@
 -- The laws of `all`, `any` and `count`. Assumes nothing.
 use mathlib.Core.Path.{_≡_, refl, sym, ap, ap₂, _∙_, subst}
-use mathlib.Core.Bool.{Bool, true, false, cond, _&&_, _||_, not, or-false}
+use mathlib.Core.Bool.{Bool, true, false, cond, _&&_, _||_, not, and-true, and-assoc, or-false}
 use mathlib.Core.Logic.{_⊎_, inl, inr}
-use Prim.Native.Nat.{ℕ, zero, suc, _+_, _≤_, _<_, zero-le}
-use native.Mathlib.Nat.{add-le-add, le-refl, le-of-suc-le-suc, not-suc-le-zero, le-step, lt-suc-self, eq-or-lt-of-le}
+use Prim.Native.Nat.{ℕ, zero, suc, _+_, _*_, _≤_, _<_, zero-le}
+use native.Mathlib.Nat.{add-le-add, add-zero, add-suc, zero-mul, suc-mul, le-refl, le-of-suc-le-suc, not-suc-le-zero, le-step, lt-suc-self, eq-or-lt-of-le}
 use native.Mathlib.Numerals.{add-one}
 use native.Mathlib.Omega.{arith}
 use borrow.Author.Tests.{eq-eqb, eqb-true, ne-eqb, ltb-true, ltb-false}
@@ -48,6 +48,18 @@ all-both (suc n) p q = ap (λ (b : Bool). b && (p n && q n)) (all-both n p q) �
     go true false true = refl
     go true false false = refl
     go false b c = refl
+
+-- those below n, and m more
+all-plus : (n m : ℕ) (p : ℕ → Bool) → all (n + m) p ≡ all n p && all m (λ i. p (n + i))
+unfolding all
+all-plus n zero p = rw (add-zero, and-true)
+all-plus n (suc m) p = rw (add-suc, all-plus n m p, and-assoc)
+
+-- n rows of m in one
+pub all-rows : (n m : ℕ) (p : ℕ → Bool) → all n (λ i. all m (λ j. p (i * m + j))) ≡ all (n * m) p
+unfolding all
+all-rows zero m p = rw zero-mul
+all-rows (suc n) m p = rw (all-rows n m p, suc-mul, all-plus)
 
 -- a loop's next step
 pub all-next : (n : ℕ) (p : ℕ → Bool) → all (n + 1) p ≡ all n p && p n

@@ -1,7 +1,10 @@
 -- Facts of truth values. Assumes nothing.
 use mathlib.Core.Path.{_≡_, refl, sym, ap, _∙_}
-use mathlib.Core.Bool.{Bool, true, false, _&&_, _||_, true≢false}
+use mathlib.Core.Bool.{Bool, true, false, _&&_, _||_, not, true≢false}
 use mathlib.Core.Logic.{_⊎_, inl, inr}
+use Prim.Native.Nat.{ℕ}
+use borrow.Author.Tests.{leb-true, leb-false, lt-ltb, le-ltb}
+use lib.Dec.{leb, ltb}
 use Rattle.task_set.specs.Bounded.{implies}
 
 -- nothing is both true and false
@@ -66,3 +69,7 @@ implies-intro false f = refl
 pub and-map : (a : Bool) {b c : Bool} → (b ≡ true → c ≡ true) → a && b ≡ true → a && c ≡ true
 and-map true f e = f e
 and-map false f e = e
+
+-- a number is not at most another one exactly if that one is less
+pub not-leb : (x y : ℕ) → not (leb x y) ≡ ltb y x
+not-leb x y = by-test (leb x y) (λ e. rw (e, le-ltb y x (leb-true x y e))) (λ e. rw (e, lt-ltb y x (leb-false x y e)))

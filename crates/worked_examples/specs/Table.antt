@@ -7,7 +7,6 @@ use lib.Dec.{eqb}
 use Rattle.task_set.specs.Bounded.{tabulate}
 use Rattle.plan.specs.declared.Plan.{Plan}
 use Rattle.plan.specs.declared.Constraint.{Constraint}
-use Rattle.plan.specs.declared.Verdict.{Verdict}
 use Rattle.plan.specs.Refusals.{noPlan, noConstraint, verdict}
 use Rattle.runs.specs.Running.{best, worst, orZero, ended, response}
 use Rattle.runs.specs.Journal.{Answer, openingAnswer, answers}

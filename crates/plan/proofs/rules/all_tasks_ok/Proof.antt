@@ -3,7 +3,8 @@ use mathlib.Core.Path.{refl, sym, ap₂, _∙_}
 use mathlib.Core.Bool.{_&&_}
 use Prim.Native.Nat.{ℕ, _-_}
 use borrow.Author.Needs.{needs}
-use Rattle.plan.specs.Rules.{mostTasks, taskOk}
+use Rattle.plan.specs.Rules.{mostTasks}
+use Rattle.plan.specs.Steps.{restOk}
 use Rattle.task_set.specs.Bounded.{all}
 use Rattle.task_set.proofs.Bounded.{all-next}
 use Rattle.task_set.proofs.Upto.{Upto, upto-none, upto-more, upto-end}
@@ -11,17 +12,20 @@ use Rattle.plan.proofs.rules.all_tasks_ok.Statement.{statement}
 use Rattle.plan.proofs.rules.all_tasks_ok.Tie as tie
 
 abbrev Inv-loop : tie.InvT-loop
-Inv-loop types tasks bcet wcet predecessors ok₀ t₀ ok t = Upto (λ (n : ℕ). all n (taskOk types tasks bcet wcet predecessors)) mostTasks t ok
+Inv-loop types tasks wcet predecessors ok₀ t₀ ok t = Upto (λ (n : ℕ). all n (restOk types tasks wcet predecessors)) mostTasks t ok
 
 abbrev μ-loop : tie.MeasureT-loop
-μ-loop types tasks bcet wcet predecessors ok₀ t₀ ok t = mostTasks - t
+μ-loop types tasks wcet predecessors ok₀ t₀ ok t = mostTasks - t
 
 loop-holds : tie.Need-loop-holds Inv-loop μ-loop
 unfolding all
 loop-holds c = upto-none refl
 
-task-ok-requires : tie.Need-task-ok-requires Inv-loop μ-loop
-task-ok-requires c κs = search needs
+types-ok-requires : tie.Need-types-ok-requires Inv-loop μ-loop
+types-ok-requires c κs = search needs
+
+predecessors-ok-requires : tie.Need-predecessors-ok-requires Inv-loop μ-loop
+predecessors-ok-requires c κs = search needs
 
 add-t : tie.Need-add-t Inv-loop μ-loop
 add-t c = search needs
@@ -30,7 +34,11 @@ loop-less : tie.Need-loop-less Inv-loop μ-loop
 loop-less c = search needs
 
 loop-again : tie.Need-loop-again Inv-loop μ-loop
-loop-again c = upto-more (c .before .loop-test .taken) (ap₂ _&&_ (c .before .before .loop .inv .is) (c .task-ok .ensures) ∙ sym (all-next _ _))
+unfolding restOk
+loop-again c =
+    upto-more (c .before .before .loop-test .taken)
+    (ap₂ _&&_ (c .before .before .before .loop .inv .is) (ap₂ _&&_ (c .before .types-ok .ensures) (c .predecessors-ok .ensures))
+    ∙ sym (all-next _ _))
 
 returns : tie.Need-returns Inv-loop μ-loop
 returns c = upto-end (c .before .loop .inv) (c .loop-test .left)
@@ -38,4 +46,13 @@ returns c = upto-end (c .before .loop .inv) (c .loop-test .left)
 pub all-tasks-ok-spec : {M : Type 1} → statement M
 all-tasks-ok-spec =
     tie.close
-    (tie.spec Inv-loop μ-loop loop-holds task-ok-requires add-t loop-less loop-again returns)
+    (tie.spec
+    Inv-loop
+    μ-loop
+    loop-holds
+    types-ok-requires
+    predecessors-ok-requires
+    add-t
+    loop-less
+    loop-again
+    returns)

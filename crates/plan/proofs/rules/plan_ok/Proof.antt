@@ -1,24 +1,47 @@
 -- `plan::rules::plan_ok` meets its contract. Assumes nothing.
-use mathlib.Core.Path.{ap₂}
-use mathlib.Core.Bool.{_&&_}
+use mathlib.Core.Path.{_≡_, sym, ap₂, _∙_}
+use mathlib.Core.Bool.{true, _&&_}
 use borrow.Author.Needs.{needs}
-use Rattle.plan.specs.Rules.{planOk}
+use borrow.Author.Tests.{not-true, not-false}
+use Rattle.plan.specs.Rules.{countsOk, planOk}
+use Rattle.plan.proofs.Kept.{counted-types}
+use Rattle.plan.proofs.Pairs.{tasks-parts}
 use Rattle.plan.proofs.rules.plan_ok.Statement.{statement}
 use Rattle.plan.proofs.rules.plan_ok.Tie as tie
+
+counted : (c : tie.Else1) → countsOk (c .before .before .args .types) (c .before .before .args .tasks) ≡ true
+counted c = sym (c .before .counts-ok .ensures) ∙ not-false _ (c .if1 .left)
 
 counts-ok-requires : tie.Need-counts-ok-requires
 counts-ok-requires c κs = search needs
 
+returns : tie.Need-returns
+unfolding planOk
+returns c = rw (sym (c .before .counts-ok .ensures) ∙ not-true _ (c .if1 .taken))
+
 all-units-ok-requires : tie.Need-all-units-ok-requires
 all-units-ok-requires c κs = search needs
 
-all-tasks-ok-requires : tie.Need-all-tasks-ok-requires
-all-tasks-ok-requires c κs = search needs
+all-pairs-fit-requires : tie.Need-all-pairs-fit-requires
+all-pairs-fit-requires c κs = search needs
 
-returns : tie.Need-returns
+all-tasks-ok-requires : tie.Need-all-tasks-ok-requires
+all-tasks-ok-requires c κs = counted-types _ _ (counted (c .before .before))
+
+returns-2 : tie.Need-returns-2
 unfolding planOk
-returns c = ap₂ _&&_ (c .before .before .counts-ok .ensures) (ap₂ _&&_ (c .before .all-units-ok .ensures) (c .all-tasks-ok .ensures))
+returns-2 c =
+    rw (counted (c .before .before .before))
+    (ap₂ _&&_ (c .before .before .all-units-ok .ensures)
+    (ap₂ _&&_ (c .before .all-pairs-fit .ensures) (c .all-tasks-ok .ensures) ∙ sym (tasks-parts _ _ _ _ _)))
 
 pub plan-ok-spec : {M : Type 1} → statement M
 plan-ok-spec =
-    tie.close (tie.spec counts-ok-requires all-units-ok-requires all-tasks-ok-requires returns)
+    tie.close
+    (tie.spec
+    counts-ok-requires
+    returns
+    all-units-ok-requires
+    all-pairs-fit-requires
+    all-tasks-ok-requires
+    returns-2)
