@@ -1,6 +1,8 @@
 -- The state that a run begins with. Assumes nothing.
-use mathlib.Core.Path.{_≡_, refl, ap}
+use mathlib.Core.Path.{_≡_, refl, sym, ap, _∙_}
+use mathlib.Core.List.{List}
 use Prim.Native.Nat.{ℕ, _≤_, zero-le}
+use native.Mathlib.Nat.{le-refl}
 use native.Mathlib.Omega.{arith}
 use borrow.Author.Tests.{eq-eqb, ne-eqb, ltb-true, ltb-false}
 use lib.Dec.{ltb}
@@ -9,7 +11,7 @@ use lib.Pow.{pow-pos}
 use Rattle.task_set.specs.Bounded.{any}
 use Rattle.task_set.specs.Sets.{width}
 use Rattle.task_set.proofs.Truth.{by-test, clash}
-use Rattle.task_set.proofs.Members.{has-none}
+use Rattle.task_set.proofs.Members.{has-none, set-ext, setOf-small, without-small}
 use Rattle.plan.specs.declared.Plan.{Plan}
 use Rattle.plan.specs.declared.Constraint.{Constraint}
 use Rattle.plan.specs.declared.Verdict.{Verdict}
@@ -20,7 +22,8 @@ use Rattle.runs.proofs.Closed.{notes-ext}
 use Rattle.live.specs.declared.State.{State}
 use Rattle.live.specs.States.{isStarted, notesOf, noState}
 use Rattle.live.specs.Ticks.{moved, stayed, started}
-use Rattle.live.specs.Steps.{stateFrom, Tidy}
+use Rattle.live.specs.Steps.{firstTasks, runningOf, stateFrom, usersOf, walkedOn, Tidy, Walkable}
+use Rattle.live.proofs.StateBack.{running-notes}
 
 zeros : (t : ℕ) → _≡_ {A = ℕ} (getD (replicate mostTasks 0) t 0) 0
 zeros t =
@@ -32,7 +35,7 @@ module _ (p : Plan) (c : Constraint) where
   abbrev pub fresh : State
   fresh = stateFrom p c 0 0 0 (replicate mostTasks 0) (replicate mostTasks 0)
 
-  pub fresh-tidy : verdict p c .number ≡ 0 → Tidy fresh
+  fresh-tidy : verdict p c .number ≡ 0 → Tidy fresh
   fresh-tidy ok =
       record {
         checked = ok;
@@ -45,6 +48,13 @@ module _ (p : Plan) (c : Constraint) where
         finishes-long = length-replicate {A = ℕ} mostTasks 0;
       }
 
+  pub fresh-walkable : verdict p c .number ≡ 0 → {users : List ℕ} → users ≡ usersOf fresh → Walkable fresh users 0
+  unfolding isStarted any firstTasks
+  fresh-walkable ok e = record { tidy = fresh-tidy ok; users-are = e; running-are = none }
+    where
+      none : 0 ≡ runningOf fresh
+      none = set-ext width 0 (runningOf fresh) (pow-pos width) (without-small width _ 0 (setOf-small width _ (le-refl width))) (λ t l. has-none t ∙ sym (running-notes fresh t l))
+
   fresh-notes : notesOf fresh ≡ blank
   unfolding isStarted any
   fresh-notes = notes-ext refl (λ t. refl) (λ t. rw (has-none t) refl)
@@ -54,6 +64,6 @@ module _ (p : Plan) (c : Constraint) where
   unfolding started
   start-refused e f = rw (← e, ne-eqb _ 0 f) refl
 
-  pub start-walked : verdict p c .number ≡ 0 → moved p c (notesOf fresh) (dispatch p c (entries c) (notesOf fresh)) ≡ started p c
+  pub start-walked : verdict p c .number ≡ 0 → walkedOn fresh ≡ started p c
   unfolding started opening
   start-walked ok = rw (eq-eqb (verdict p c .number) 0 ok) (ap (λ (n : Notes). moved p c n (dispatch p c (entries c) n)) fresh-notes)

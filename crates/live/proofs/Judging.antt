@@ -1,32 +1,36 @@
 -- Whether a state is sound, from the answers of the functions that test its parts. Assumes nothing.
-use mathlib.Core.Path.{_≡_, sym, ap, ap₂, _∙_, fun-ext}
+use mathlib.Core.Path.{_≡_, sym, ap, _∙_}
 use mathlib.Core.Bool.{Bool, true, false, _&&_, _||_, not, and-true, and-false, and-assoc}
 use mathlib.Core.List.{List}
+use mathlib.Core.Logic.{⊎-elim}
 use Prim.Native.Nat.{ℕ, _+_, _≤_, _<_}
 use native.Mathlib.Nat.{le-refl, le-trans, lt-of-lt-of-le}
 use native.Mathlib.Omega.{arith}
-use borrow.Author.Tests.{lt-ltb, le-ltb, eq-eqb, ne-eqb, le-leb, lt-leb, leb-true, leb-false}
+use borrow.Author.Tests.{ltb-true, ltb-false, lt-ltb, le-ltb, eqb-true, eq-eqb, le-leb, lt-leb, not-true, not-false}
 use lib.Bits.{bitAnd}
 use lib.Dec.{eqb, leb, ltb}
 use lib.ListN.{getD}
-use Rattle.task_set.specs.Bounded.{all, tabulate}
-use Rattle.task_set.specs.Sets.{width, has, below, size, without}
-use Rattle.task_set.proofs.Truth.{by-test, and-left}
+use Rattle.task_set.specs.Bounded.{all}
+use Rattle.task_set.specs.Sets.{width, has, below, size}
+use Rattle.task_set.proofs.Truth.{by-test, and-left, not-leb, or-cases, or-left-off, or-right-off}
 use Rattle.task_set.proofs.Bounded.{all-cong, all-both, count-cong, count-all}
-use Rattle.task_set.proofs.Members.{has-below, has-without, apart-mask}
+use Rattle.task_set.proofs.Members.{has-below, apart-mask}
+use Rattle.plan.specs.declared.Verdict.{Verdict}
 use Rattle.plan.specs.Rules.{mostTasks, mostTypes}
 use Rattle.plan.specs.Refusals.{entryAt, verdict}
 use Rattle.plan.proofs.Accepted.{Accepted, accepted}
 use Rattle.dispatch_theory.proofs.Reorder.{count-upto}
-use Rattle.runs.specs.Running.{hasStarted, hasFinished, isRunning, over}
+use Rattle.runs.specs.Running.{hasStarted, hasFinished, isRunning}
 use Rattle.runs.proofs.Positions.{worst-entry}
 use Rattle.live.specs.declared.State.{State}
+use Rattle.live.specs.declared.sets.Marks.{Marks}
 use Rattle.live.specs.States.{isStarted, notesOf}
 use Rattle.live.specs.Soundness.{startIn, lastInstant, checked, startedFits, finishedStarted, startCame, finishCame}
 use Rattle.live.specs.Soundness.{unusedZero, timeLeft, unitsEnough, instantLow, taskSound, isSound}
-use Rattle.live.specs.Steps.{firstTasks, typeUsers, reached, timesFit, allTimesFit, enoughFor}
+use Rattle.live.specs.Steps.{reached, timesFit, allTimesFit, enoughFor, marksIn, runningOf, usersOf, soundBy}
+use Rattle.live.proofs.Ranges.{task-low}
 use Rattle.live.proofs.Standing.{has-first, tasks-small}
-use Rattle.live.proofs.StateBack.{started-notes, finished-notes}
+use Rattle.live.proofs.StateBack.{started-notes, running-notes, over-notes}
 use Rattle.live.proofs.Choices.{started-position, has-own, busy-size}
 
 -- the members below n are as many as n exactly if each number below n is one
@@ -40,48 +44,30 @@ over-by n s l e f =
       count-cong n (has (below s n)) (has s) (λ t m. has-below s n t ∙ rw (lt-ltb t n m) (and-true (has s t))),
     ) (count-all n (has s))
 
-not-leb : (x y : ℕ) → not (leb x y) ≡ ltb y x
-not-leb x y = by-test (leb x y) (λ e. rw (e, le-ltb y x (leb-true x y e))) (λ e. rw (e, lt-ltb y x (leb-false x y e)))
-
 -- what the first two tests leave
 pub record Passed (s : State) : Type 0 where
   pub checked : verdict (s .plan) (s .constraint) .number ≡ 0
   pub few : s .started ≤ s .plan .tasks
 
 module _ (s : State) where
-  -- the check refuses the plan or the constraint
-  pub unsound-refused : (verdict (s .plan) (s .constraint) .number ≡ 0 → ⊥) → false ≡ isSound s
-  unfolding isSound checked
-  unsound-refused f = rw (ne-eqb _ 0 f)
+  -- the first two tests, as the tick asks them
+  module _ {v : Verdict} (e : v ≡ verdict (s .plan) (s .constraint)) where
+    pub unsound-first : not (eqb (v .number) 0) || ltb (s .plan .tasks) (s .started) ≡ true → isSound s ≡ false
+    unfolding isSound checked startedFits
+    unsound-first f = ⊎-elim refused many (or-cases _ _ f)
+      where
+        refused : not (eqb (v .number) 0) ≡ true → isSound s ≡ false
+        refused q = rw (← e, not-true (eqb (v .number) 0) q)
 
-  -- more tasks have started than there are
-  pub unsound-many : s .plan .tasks < s .started → false ≡ isSound s
-  unfolding isSound startedFits
-  unsound-many l = rw (lt-leb (s .started) (s .plan .tasks) l, and-false (checked s))
+        many : ltb (s .plan .tasks) (s .started) ≡ true → isSound s ≡ false
+        many q = rw (lt-leb (s .started) (s .plan .tasks) (ltb-true _ _ q), and-false (checked s))
 
-  -- ---- the sets of tasks
-
-  abbrev begun : ℕ
-  begun = firstTasks (s .constraint .order) (s .started)
-
-  abbrev running : ℕ
-  running = without begun (s .finished)
-
-  -- the started tasks whose worst time is reached
-  abbrev spent : ℕ
-  spent = reached (s .plan .wcet) (s .starts) (s .constraint .order) (s .constraint .chosen) (s .started) (s .instant)
-
-  abbrev users : List ℕ
-  users = tabulate mostTypes (typeUsers (s .constraint .order) (s .constraint .chosen) (s .constraint .len))
-
-  has-begun : (t : ℕ) → t < width → has begun t ≡ isStarted s t
-  unfolding isStarted
-  has-begun = has-first (s .constraint .order) (s .started)
-
-  pub has-running : (t : ℕ) → t < width → has running t ≡ isRunning (notesOf s) t
-  has-running t l =
-      has-without begun (s .finished) t
-      ∙ ap₂ (λ (x z : Bool). x && not z) (has-begun t l ∙ sym (started-notes s t)) (sym (finished-notes s t))
+    pub passed-first : not (eqb (v .number) 0) || ltb (s .plan .tasks) (s .started) ≡ false → Passed s
+    passed-first f =
+        record {
+          checked = sym (ap (λ (w : Verdict). w .number) e) ∙ eqb-true _ 0 (not-false _ (or-left-off _ _ f));
+          few = ltb-false _ _ (or-right-off (not (eqb (v .number) 0)) _ f);
+        }
 
   module _ (y : Passed s) where
     a : Accepted (s .plan) (s .constraint)
@@ -96,22 +82,30 @@ module _ (s : State) where
     started-low = le-trans (y .few) (a .few-tasks)
 
     pub entries-low : (j : ℕ) → j < s .started → entryAt (s .constraint .order) j < mostTasks
-    entries-low j l = lt-of-lt-of-le (a .task j (lt-of-lt-of-le l (y .few))) (a .few-tasks)
-
-    pub len-low : s .constraint .len ≤ mostTasks
-    len-low = omega (arith, a .whole, a .few-tasks)
-
-    pub types-low : (j : ℕ) → j < s .constraint .len → entryAt (s .constraint .chosen) j < mostTypes
-    types-low j l = lt-of-lt-of-le (a .type j (omega (arith, a .whole))) (a .few-types)
+    entries-low j l = task-low (s .plan) (s .constraint) (y .checked) j (omega (arith, a .whole, y .few))
 
     -- ---- the clauses about tasks
+
+    -- the started tasks, the running ones, and those whose worst time has come
+    abbrev begun : ℕ
+    begun = marksIn s .begun
+
+    abbrev running : ℕ
+    running = runningOf s
+
+    abbrev spent : ℕ
+    spent = marksIn s .spent
+
+    has-begun : (t : ℕ) → t < width → has begun t ≡ isStarted s t
+    unfolding isStarted
+    has-begun = has-first (s .constraint .order) (s .started)
 
     abbrev fits : ℕ → Bool
     fits = allTimesFit (s .starts) (s .finishes) begun (s .finished) (s .instant)
 
     time-left : (t : ℕ) → t < width → timeLeft s t ≡ not (has spent t && has running t)
     unfolding timeLeft reached
-    time-left t l = rw (has-running t l) (by-test (isRunning (notesOf s) t) yes (λ e. rw (e, and-false (has spent t))))
+    time-left t l = rw (running-notes s t l) (by-test (isRunning (notesOf s) t) yes (λ e. rw (e, and-false (has spent t))))
       where
         yes : isRunning (notesOf s) t ≡ true → timeLeft s t ≡ not (has spent t && isRunning (notesOf s) t)
         yes e =
@@ -137,23 +131,19 @@ module _ (s : State) where
 
     -- ---- the clauses about types and the instant
 
-    units-by : all mostTypes (unitsEnough s) ≡ all mostTypes (enoughFor (s .plan .units) users running)
+    units-by : all mostTypes (unitsEnough s) ≡ all mostTypes (enoughFor (s .plan .units) (usersOf s) running)
     unfolding unitsEnough enoughFor
     units-by =
-        all-cong mostTypes _ _ (λ k l. ap (λ (n : ℕ). leb n (getD (s .plan .units) k 0)) (busy-size s a (y .few) running has-running k l))
+        all-cong mostTypes _ _ (λ k l. ap (λ (n : ℕ). leb n (getD (s .plan .units) k 0)) (busy-size s a (y .few) running (running-notes s) k l))
 
     instant-by : instantLow s ≡ leb (s .instant) lastInstant && (all (s .plan .tasks) (has (s .finished)) || ltb (s .instant) lastInstant)
-    unfolding instantLow over
-    instant-by =
-        ap (λ (f : ℕ → Bool). leb (s .instant) lastInstant && (all (s .plan .tasks) f || ltb (s .instant) lastInstant)) (fun-ext (finished-notes s))
+    unfolding instantLow
+    instant-by = rw (over-notes s)
 
     -- ---- the whole
 
-    pub sound-by : {b r x : ℕ} {u : List ℕ} {done fit enough : Bool} → b ≡ begun → r ≡ without b (s .finished) → x ≡ spent → u ≡ users
-        → done ≡ all (s .plan .tasks) (has (s .finished))
-        → fit ≡ all width (allTimesFit (s .starts) (s .finishes) b (s .finished) (s .instant))
-        → enough ≡ all mostTypes (enoughFor (s .plan .units) u r)
-        → (fit && eqb (bitAnd x r) 0) && (enough && (leb (s .instant) lastInstant && (done || ltb (s .instant) lastInstant))) ≡ isSound s
-    unfolding isSound checked startedFits
-    sound-by e f g h k m n =
-        rw (n, m, k, h, g, f, e, ← tasks-by, ← units-by, ← instant-by, eq-eqb _ 0 (y .checked), le-leb (s .started) (s .plan .tasks) (y .few))
+    pub sound-by : {u : List ℕ} {m : Marks} {done : Bool} → u ≡ usersOf s → m ≡ marksIn s → done ≡ all (s .plan .tasks) (has (s .finished))
+        → soundBy (s .plan .units) u (s .starts) (s .finishes) m done (s .finished) (s .instant) ≡ isSound s
+    unfolding isSound checked startedFits soundBy
+    sound-by e f g =
+        rw (e, f, g, ← tasks-by, ← units-by, ← instant-by, eq-eqb _ 0 (y .checked), le-leb (s .started) (s .plan .tasks) (y .few))

@@ -2,7 +2,9 @@
 pub mod NotesBack
 pub mod SoundStates
 pub mod Claims
+pub mod Ranges
 pub mod Standing
+pub mod Marking
 pub mod Walking
 pub mod StateBack
 pub mod Choices

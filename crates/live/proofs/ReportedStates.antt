@@ -7,11 +7,11 @@ use Prim.Native.Nat.{ℕ, _+_, _^_, _≤_, _<_}
 use native.Mathlib.Numerals.{add-one}
 use native.Mathlib.Omega.{arith}
 use borrow.Author.Tests.{ltb-true, ltb-false, leb-true, eqb-true, not-false}
-use lib.Bits.{or-lt}
+use lib.Bits.{bitOr, or-lt}
 use lib.Dec.{eqb, ltb}
 use lib.ListN.{getD, length, List·getD-eq-default}
-use Rattle.task_set.specs.Bounded.{all}
-use Rattle.task_set.specs.Sets.{width, has}
+use Rattle.task_set.specs.Bounded.{all, tabulate}
+use Rattle.task_set.specs.Sets.{width, has, without}
 use Rattle.task_set.proofs.Truth.{by-test, clash, and-left, and-right, or-cases, or-left-off, or-right-off, implies-elim}
 use Rattle.task_set.proofs.Bounded.{all-elim}
 use Rattle.task_set.proofs.Members.{has-or, has-past}
@@ -25,7 +25,7 @@ use Rattle.live.specs.declared.State.{State}
 use Rattle.live.specs.States.{isStarted, notesOf}
 use Rattle.live.specs.Soundness.{lastInstant, checked, startedFits, finishedStarted, startCame, finishCame, unusedZero}
 use Rattle.live.specs.Soundness.{unitsEnough, instantLow, taskSound, isSound}
-use Rattle.live.specs.Steps.{stampAt, reportedState, Tidy}
+use Rattle.live.specs.Steps.{firstTasks, usersOf, stampAt, nextState, reportedState, Tidy, Walkable}
 use Rattle.live.proofs.StateBack.{started-notes}
 
 -- a state's words and arrays are as wide as their types
@@ -34,7 +34,9 @@ pub record Shaped (s : State) : Type 0 where
   pub starts-long : length (s .starts) ≡ mostTasks
   pub finishes-long : length (s .finishes) ≡ mostTasks
 
-module _ (s : State) (h : Shaped s) (sound : isSound s ≡ true) where
+-- ---- what a sound state has
+
+module _ (s : State) (sound : isSound s ≡ true) where
   rest : Bool
   rest = all width (taskSound s) && (all mostTypes (unitsEnough s) && instantLow s)
 
@@ -60,35 +62,36 @@ module _ (s : State) (h : Shaped s) (sound : isSound s ≡ true) where
   unfolding rest
   task t l = all-elim width (taskSound s) (and-left (all width (taskSound s)) _ rest-sound) t l
 
-  -- a member is a task number
-  member-low : (x t : ℕ) → x < 2 ^ width → has x t ≡ true → t < width
-  member-low x t l e = by-test (ltb t width) (ltb-true t width) (λ f. absurd (clash e (has-past width t l (ltb-false t width f))))
+-- a member is a task number
+member-low : (x t : ℕ) → x < 2 ^ width → has x t ≡ true → t < width
+member-low x t l e = by-test (ltb t width) (ltb-true t width) (λ f. absurd (clash e (has-past width t l (ltb-false t width f))))
 
-  -- past the arrays everything is 0
-  past-zero : (l : List ℕ) (t : ℕ) → length l ≡ mostTasks → (t < width → getD l t 0 ≡ 0) → getD l t 0 ≡ 0
-  past-zero l t e f = by-test (ltb t width) (λ q. f (ltb-true t width q)) (λ q. List·getD-eq-default l 0 (omega (arith, ltb-false t width q)))
+-- past the arrays everything is 0
+past-zero : (l : List ℕ) (t : ℕ) → length l ≡ mostTasks → (t < width → getD l t 0 ≡ 0) → getD l t 0 ≡ 0
+past-zero l t e f = by-test (ltb t width) (λ q. f (ltb-true t width q)) (λ q. List·getD-eq-default l 0 (omega (arith, ltb-false t width q)))
 
+-- one or the other, and not the first
+other : (a b : Bool) → a || b ≡ true → a ≡ false → b ≡ true
+other a b e f = rw f at e
+
+module _ (s : State) (h : Shaped s) (sound : isSound s ≡ true) where
   sound-ends : (t : ℕ) → has (s .finished) t ≡ true → isStarted s t ≡ true
   unfolding taskSound finishedStarted
   sound-ends t e =
       implies-elim (has (s .finished) t) (isStarted s t)
-      (and-left (finishedStarted s t) _ (task t (member-low (s .finished) t (h .finished-small) e))) e
+      (and-left (finishedStarted s t) _ (task s sound t (member-low (s .finished) t (h .finished-small) e))) e
 
   zero-unused : (t : ℕ) → t < width → unusedZero s t ≡ true
   unfolding taskSound
   zero-unused t l =
-      and-left (unusedZero s t) _ (and-right (finishCame s t) _ (and-right (startCame s t) _ (and-right (finishedStarted s t) _ (task t l))))
-
-  -- one or the other, and not the first
-  other : (a b : Bool) → a || b ≡ true → a ≡ false → b ≡ true
-  other a b e f = rw f at e
+      and-left (unusedZero s t) _ (and-right (finishCame s t) _ (and-right (startCame s t) _ (and-right (finishedStarted s t) _ (task s sound t l))))
 
   pub sound-tidy : Tidy s
   unfolding unusedZero
   sound-tidy =
       record {
-        checked = sound-checked;
-        few = sound-few;
+        checked = sound-checked s sound;
+        few = sound-few s sound;
         finished-started = sound-ends;
         starts-zero = λ t e. past-zero (s .starts) t (h .starts-long)
             (λ l. eqb-true _ 0 (other (isStarted s t) _ (and-left (isStarted s t || eqb (getD (s .starts) t 0) 0) _ (zero-unused t l)) e));
@@ -137,8 +140,8 @@ module _ (s : State) (h : Shaped s) (sound : isSound s ≡ true) where
     unfolding isStarted
     reported-tidy =
         record {
-          checked = sound-checked;
-          few = sound-few;
+          checked = sound-checked s sound;
+          few = sound-few s sound;
           finished-started =
               λ t e. ⊎-elim (sound-ends t) (λ q. sym (started-notes s t) ∙ and-left (hasStarted (notesOf s) t) _ (reported-runs t q))
               (or-cases _ _ (sym (has-or t (s .finished) report) ∙ e));
@@ -152,3 +155,9 @@ module _ (s : State) (h : Shaped s) (sound : isSound s ≡ true) where
           starts-long = h .starts-long;
           finishes-long = length-tabulate mostTasks _;
         }
+
+    -- what the walk asks, from what the tick computes
+    pub reported-walkable : {begun running : ℕ} {users finishes : List ℕ} → begun ≡ firstTasks (s .constraint .order) (s .started) → users ≡ usersOf s
+        → running ≡ without begun (bitOr (s .finished) report) → finishes ≡ tabulate mostTasks (stampAt (s .finishes) report (s .instant + 1))
+        → Walkable (nextState s report finishes) users running
+    reported-walkable e f g k = rw k (record { tidy = reported-tidy; users-are = f; running-are = g ∙ rw e refl })

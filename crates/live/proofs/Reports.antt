@@ -1,5 +1,5 @@
 -- The faulty sets of a report on a state are those of the journal on its notes. Assumes nothing.
-use mathlib.Core.Path.{_≡_, refl, sym, ap, ap₂, _∙_}
+use mathlib.Core.Path.{_≡_, refl, sym, ap, _∙_}
 use mathlib.Core.Bool.{Bool, true, false, cond, _&&_, not, and-false, and-true, and-comm}
 use mathlib.Core.List.{List}
 use mathlib.Core.Option.{none}
@@ -7,13 +7,13 @@ use Prim.Native.Nat.{ℕ, suc, _+_, _^_, _≤_, _<_}
 use native.Mathlib.Nat.{le-refl, le-of-eq}
 use native.Mathlib.Numerals.{add-one}
 use native.Mathlib.Omega.{arith}
-use borrow.Author.Tests.{leb-true, leb-false, lt-ltb, le-ltb, not-false}
+use borrow.Author.Tests.{eqb-true, eqb-false, lt-ltb, le-ltb, not-false}
 use lib.Bits.{bitAnd}
-use lib.Dec.{leb, ltb}
+use lib.Dec.{eqb, leb, ltb}
 use lib.ListN.{getD}
 use Rattle.task_set.specs.Bounded.{first}
 use Rattle.task_set.specs.Sets.{width, has, without, lowest}
-use Rattle.task_set.proofs.Truth.{by-test, and-left}
+use Rattle.task_set.proofs.Truth.{by-test, and-left, not-leb}
 use Rattle.task_set.proofs.Search.{first-cong, search-ended}
 use Rattle.task_set.proofs.Members.{has-none, has-and, has-without, lowest-low}
 use Rattle.plan.specs.declared.Verdict.{Verdict}
@@ -25,9 +25,8 @@ use Rattle.runs.specs.Journal.{idle, early, overdue}
 use Rattle.runs.proofs.Positions.{best-entry, worst-entry}
 use Rattle.live.specs.declared.State.{State}
 use Rattle.live.specs.States.{isStarted, notesOf}
-use Rattle.live.specs.Steps.{firstTasks, reached}
-use Rattle.live.proofs.Standing.{has-first}
-use Rattle.live.proofs.StateBack.{started-notes, finished-notes}
+use Rattle.live.specs.Steps.{reached, marksIn, runningOf, unlessEmpty}
+use Rattle.live.proofs.StateBack.{started-notes, running-notes}
 use Rattle.live.proofs.Choices.{started-position, has-own}
 
 -- ---- a faulty set decides a refusal and its place
@@ -37,7 +36,7 @@ module _ (number : ℕ) (fault : ℕ → Bool) (rest : Verdict) {x : ℕ} (small
   unfolding lowest
   lowest-fault = first-cong width (has x) fault same-set
 
-  pub set-empty : x ≡ 0 → unlessAt number width fault rest ≡ rest
+  set-empty : x ≡ 0 → unlessAt number width fault rest ≡ rest
   unfolding unlessAt
   set-empty e = ap (λ (b : Bool). cond b (refused number (first width fault)) rest) (le-ltb (first width fault) width (le-of-eq none))
     where
@@ -46,27 +45,18 @@ module _ (number : ℕ) (fault : ℕ → Bool) (rest : Verdict) {x : ℕ} (small
           search-ended (record { within = le-refl width; before = λ j l. sym (same-set j l) ∙ ap (λ (z : ℕ). has z j) e ∙ has-none j })
           (le-refl width)
 
-  pub set-faulty : (x ≡ 0 → ⊥) → unlessAt number width fault rest ≡ refused number (lowest x)
+  set-faulty : (x ≡ 0 → ⊥) → unlessAt number width fault rest ≡ refused number (lowest x)
   unfolding unlessAt
   set-faulty f = rw (← lowest-fault, lt-ltb (lowest x) width (lowest-low x small f)) refl
 
--- a number not above another one is below its successor
-not-reached : (x i : ℕ) → not (leb x i) ≡ ltb i x
-not-reached x i = by-test (leb x i) (λ e. rw (e, le-ltb i x (leb-true x i e)) refl) (λ e. rw (e, lt-ltb i x (leb-false x i e)) refl)
+  pub unless-set : unlessAt number width fault rest ≡ unlessEmpty number x rest
+  unfolding unlessEmpty
+  unless-set = by-test (eqb x 0) (λ e. rw e (set-empty (eqb-true x 0 e))) (λ e. rw e (set-faulty (eqb-false x 0 e)))
 
 module _ (s : State) (a : Accepted (s .plan) (s .constraint)) (few : s .started ≤ s .plan .tasks) where
   -- the start of a started task
   start-notes : (t : ℕ) → isStarted s t ≡ true → orZero (notesOf s .start t) ≡ getD (s .starts) t 0
   start-notes t e = rw e refl
-
-  -- the running tasks
-  module _ {begun running : ℕ} (e : begun ≡ firstTasks (s .constraint .order) (s .started)) (f : running ≡ without begun (s .finished)) where
-    pub runs : (t : ℕ) → t < width → has running t ≡ isRunning (notesOf s) t
-    unfolding isStarted
-    runs t l =
-        ap (λ (z : ℕ). has z t) f ∙ has-without begun (s .finished) t
-        ∙ ap₂ (λ (x z : Bool). x && not z) (ap (λ (z : ℕ). has z t) e ∙ has-first (s .constraint .order) (s .started) t l ∙ sym (started-notes s t))
-        (sym (finished-notes s t))
 
   -- a running task has come to the instant by its best or worst time, by the set and by the notes
   module _ (t i : ℕ) (r : isRunning (notesOf s) t ≡ true) where
@@ -87,48 +77,49 @@ module _ (s : State) (a : Accepted (s .plan) (s .constraint)) (few : s .started 
 
   -- ---- the sets of 14, 15 and 16; the new instant is one more
 
-  module _ (report running : ℕ) (runs : (t : ℕ) → t < width → has running t ≡ isRunning (notesOf s) t) where
-    pub idle-set : {x : ℕ} → x ≡ without report running → (t : ℕ) → t < width → has x t ≡ idle (notesOf s) report t
+  module _ (report : ℕ) where
+    pub idle-set : (t : ℕ) → t < width → has (without report (runningOf s)) t ≡ idle (notesOf s) report t
     unfolding idle
-    idle-set e t l = ap (λ (z : ℕ). has z t) e ∙ has-without report running t ∙ ap (λ (b : Bool). has report t && not b) (runs t l)
+    idle-set t l = has-without report (runningOf s) t ∙ ap (λ (b : Bool). has report t && not b) (running-notes s t l)
 
     -- where no reported task is idle
-    pub early-set : {x z : ℕ} → ((t : ℕ) → t < width → idle (notesOf s) report t ≡ false)
-        → z ≡ reached (s .plan .bcet) (s .starts) (s .constraint .order) (s .constraint .chosen) (s .started) (s .instant + 1) → x ≡ without report z
-        → (t : ℕ) → t < width → has x t ≡ early (s .plan) (s .constraint) (notesOf s) report t
+    pub early-set : ((t : ℕ) → t < width → idle (notesOf s) report t ≡ false) → (t : ℕ) → t < width
+        → has (without report (marksIn s .ripe)) t ≡ early (s .plan) (s .constraint) (notesOf s) report t
     unfolding idle early
-    early-set {x} {z} h e f t l =
-        ap (λ (y : ℕ). has y t) f ∙ has-without report z t ∙ by-test (has report t) reported (λ q. rw q refl)
+    early-set h t l = has-without report (marksIn s .ripe) t ∙ by-test (has report t) reported (λ q. rw q refl)
       where
-        reported : has report t ≡ true
-            → has report t && not (has z t) ≡ has report t && ltb (suc (s .instant)) (orZero (notesOf s .start t) + best (s .plan) (s .constraint) t)
+        late : Bool
+        late = ltb (suc (s .instant)) (orZero (notesOf s .start t) + best (s .plan) (s .constraint) t)
+
+        reported : has report t ≡ true → has report t && not (has (marksIn s .ripe) t) ≡ has report t && late
         reported q =
             let r : isRunning (notesOf s) t ≡ true = not-false _ (rw q at (h t l)) in
             rw (
               q,
-              e,
               own-time t (s .instant + 1) r (s .plan .bcet) (best (s .plan) (s .constraint)) (best-entry (s .plan) (s .constraint) a),
               add-one (s .instant),
             )
-            (not-reached (orZero (notesOf s .start t) + best (s .plan) (s .constraint) t) (suc (s .instant)))
+            (not-leb (orZero (notesOf s .start t) + best (s .plan) (s .constraint) t) (suc (s .instant)))
 
-    pub overdue-set : {x z : ℕ} → z ≡ reached (s .plan .wcet) (s .starts) (s .constraint .order) (s .constraint .chosen) (s .started) (s .instant + 1)
-        → x ≡ without (bitAnd z running) report → (t : ℕ) → t < width → has x t ≡ overdue (s .plan) (s .constraint) (notesOf s) report t
+    pub overdue-set : (t : ℕ) → t < width
+        → has (without (bitAnd (marksIn s .due) (runningOf s)) report) t ≡ overdue (s .plan) (s .constraint) (notesOf s) report t
     unfolding overdue
-    overdue-set {x} {z} e f t l =
-        ap (λ (y : ℕ). has y t) f ∙ has-without (bitAnd z running) report t
-        ∙ ap (λ (b : Bool). b && not (has report t)) (has-and t z running ∙ ap (λ (b : Bool). has z t && b) (runs t l))
-        ∙ by-test (isRunning (notesOf s) t) yes (λ q. rw (q, and-false (has z t)) refl)
+    overdue-set t l =
+        has-without (bitAnd due (runningOf s)) report t
+        ∙ ap (λ (b : Bool). b && not (has report t)) (has-and t due (runningOf s) ∙ ap (λ (b : Bool). has due t && b) (running-notes s t l))
+        ∙ by-test (isRunning (notesOf s) t) yes (λ q. rw (q, and-false (has due t)) refl)
       where
+        due : ℕ
+        due = marksIn s .due
+
         late : Bool
         late = leb (orZero (notesOf s .start t) + worst (s .plan) (s .constraint) t) (suc (s .instant))
 
         yes : isRunning (notesOf s) t ≡ true
-            → (has z t && isRunning (notesOf s) t) && not (has report t) ≡ isRunning (notesOf s) t && (not (has report t) && late)
+            → (has due t && isRunning (notesOf s) t) && not (has report t) ≡ isRunning (notesOf s) t && (not (has report t) && late)
         yes r =
             rw (
               r,
-              e,
               own-time t (s .instant + 1) r (s .plan .wcet) (worst (s .plan) (s .constraint)) (worst-entry (s .plan) (s .constraint) a),
               add-one (s .instant),
             )

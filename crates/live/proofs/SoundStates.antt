@@ -1,16 +1,16 @@
 -- The state that stands for the notes of a timed run with allowed times, up to the bound, is sound. Assumes nothing.
 use mathlib.Core.Path.{_≡_, refl, sym, ap, _∙_}
-use mathlib.Core.Bool.{Bool, true, false, _&&_, _||_, not, and-comm}
+use mathlib.Core.Bool.{Bool, true, false, _&&_, _||_, and-comm}
 use mathlib.Core.Option.{Option, none, some}
 use Prim.Native.Nat.{ℕ, zero, suc, _+_, _*_, _≤_, _<_, zero-le}
 use native.Mathlib.Nat.{le-trans, lt-of-lt-of-le, le-step, lt-suc-self, le-of-eq}
 use native.Mathlib.Omega.{arith}
-use borrow.Author.Tests.{eq-eqb, leb-true, leb-false, le-leb, ltb-true, lt-ltb, le-ltb}
+use borrow.Author.Tests.{eq-eqb, leb-true, leb-false, le-leb, ltb-true, lt-ltb}
 use lib.Dec.{eqb, leb, ltb}
 use lib.ListN.{getD}
 use Rattle.task_set.specs.Bounded.{count}
 use Rattle.task_set.specs.Sets.{width, has}
-use Rattle.task_set.proofs.Truth.{by-test, and-both, or-left, or-right}
+use Rattle.task_set.proofs.Truth.{by-test, and-both, not-leb, or-left, or-right}
 use Rattle.task_set.proofs.Bounded.{all-intro, count-cong}
 use Rattle.task_set.proofs.Tables.{getD-tabulate}
 use Rattle.plan.specs.declared.Plan.{Plan}
@@ -46,9 +46,6 @@ came-once i s d w l m true true e f = (omega arith, leb-true (s + d) i f)
 came-once i s d w l m true false e f = (leb-true s i e, omega (arith, leb-false (s + d) i f))
 came-once i s d w l m false true e f = absurd (omega (arith, leb-false s i e, leb-true (s + d) i f))
 came-once i s d w l m false false e f = tt
-
-not-leb : (x y : ℕ) → not (leb x y) ≡ ltb y x
-not-leb x y = by-test (leb x y) (λ e. rw (e, le-ltb y x (leb-true x y e))) (λ e. rw (e, lt-ltb y x (leb-false x y e)))
 
 sum-most : (n : ℕ) (f : ℕ → ℕ) → ((j : ℕ) → j < n → f j ≤ longestTime) → sum n f ≤ n * longestTime
 unfolding sum

@@ -5,17 +5,17 @@ use mathlib.Core.List.{List}
 use Prim.Native.Nat.{ℕ, _+_, _^_, _<_, zero-le}
 use native.Mathlib.Omega.{arith}
 use native.Mathlib.Nat.{le-refl}
-use borrow.Author.Tests.{le-ltb, ltb-true, lt-ltb, eqb-true, eq-eqb, ne-eqb, eqb-false}
+use borrow.Author.Tests.{le-ltb, ltb-true, lt-ltb, eq-eqb, ne-eqb}
 use lib.Dec.{eqb, ltb}
-use lib.ListN.{getD, set, length, length-set}
+use lib.ListN.{getD, set}
 use lib.Pow.{pow-pos}
-use lib.Seq.{ext-getD, getD-set-same, getD-set-other}
+use lib.Seq.{ext-getD}
 use Rattle.task_set.specs.Bounded.{any, tabulate}
 use Rattle.task_set.specs.Sets.{width, has, insert}
-use Rattle.task_set.proofs.Truth.{by-test, same}
+use Rattle.task_set.proofs.Truth.{same}
 use Rattle.task_set.proofs.Bounded.{any-next}
 use Rattle.task_set.proofs.Members.{has-none, has-insert-low, insert-small, has-setOf, setOf-small, set-ext}
-use Rattle.task_set.proofs.Tables.{length-tabulate, getD-tabulate}
+use Rattle.task_set.proofs.Tables.{length-tabulate, getD-tabulate, set-tabulate}
 use Rattle.plan.specs.Rules.{mostTypes}
 use Rattle.plan.specs.Refusals.{entryAt}
 use Rattle.live.specs.Steps.{tasksAt, firstTasks, typeUsers}
@@ -72,22 +72,6 @@ has-first order n t l = ap (λ (x : ℕ). has x t) (sym (first-all order n)) ∙
 
 -- ---- the sets of users of each type
 
--- a table of which one entry changes
-pub tabulate-set : (n : ℕ) (f g : ℕ → ℕ) (k v : ℕ) → k < n → g k ≡ v → ((i : ℕ) → i < n → (i ≡ k → ⊥) → f i ≡ g i)
-    → set (tabulate n f) k v ≡ tabulate n g
-tabulate-set n f g k v l e h =
-    ext-getD 0 (set (tabulate n f) k v) (tabulate n g) (length-set (tabulate n f) k v ∙ length-tabulate n f ∙ sym (length-tabulate n g)) each
-  where
-    low : (i : ℕ) → i < length (set (tabulate n f) k v) → i < n
-    low i m = rw (length-set (tabulate n f) k v, length-tabulate n f) at m
-
-    each : (i : ℕ) → i < length (set (tabulate n f) k v) → getD (set (tabulate n f) k v) i 0 ≡ getD (tabulate n g) i 0
-    each i m =
-        by-test (eqb i k)
-        (λ q. rw (eqb-true i k q) (getD-set-same (tabulate n f) k v 0 (rw length-tabulate l) ∙ sym (getD-tabulate n g k 0 l ∙ e)))
-        (λ q. getD-set-other (tabulate n f) k i v 0 (eqb-false i k q) ∙ getD-tabulate n f i 0 (low i m) ∙ h i (low i m) (eqb-false i k q)
-        ∙ sym (getD-tabulate n g i 0 (low i m)))
-
 pub users-none : (order chosen : List ℕ) → tabulate mostTypes (λ k. 0) ≡ tabulate mostTypes (typeUsers order chosen 0)
 unfolding typeUsers
 users-none order chosen = ap (tabulate mostTypes) (fun-ext (λ k. tasks-none order (λ j. eqb (entryAt chosen j) k)))
@@ -99,10 +83,10 @@ pub users-more : (order chosen : List ℕ) (n : ℕ) {users : List ℕ} {s : ℕ
     → set users (entryAt chosen n) s ≡ tabulate mostTypes (typeUsers order chosen (n + 1))
 unfolding typeUsers
 users-more order chosen n l e f =
-    rw (f, e)
-    (tabulate-set mostTypes (typeUsers order chosen n) (typeUsers order chosen (n + 1)) k _ l
-    (sym (tasks-more order n (λ j. eqb (entryAt chosen j) k)) ∙ rw (eq-eqb k k refl, getD-tabulate mostTypes (typeUsers order chosen n) k 0 l) refl)
-    (λ i m f. rw (ne-eqb k i (λ q. f (sym q))) at (tasks-more order n (λ j. eqb (entryAt chosen j) i))))
+    rw (f, e, getD-tabulate mostTypes (typeUsers order chosen n) k 0 l)
+    (ap (set (tabulate mostTypes (typeUsers order chosen n)) k) (rw (eq-eqb k k refl) at (tasks-more order n (λ j. eqb (entryAt chosen j) k)))
+    ∙ set-tabulate mostTypes (typeUsers order chosen n) (typeUsers order chosen (n + 1)) k
+    (λ i h. rw (ne-eqb k i (λ q. h (sym q))) at (tasks-more order n (λ j. eqb (entryAt chosen j) i))))
   where
     k : ℕ
     k = entryAt chosen n
@@ -121,10 +105,14 @@ pub filled-more : (n : ℕ) (f : ℕ → ℕ) (i : ℕ) {l : List ℕ} {v : ℕ}
 unfolding filled
 filled-more n f i m e g =
     rw (e, g)
-    (tabulate-set n (filled f i) (filled f (i + 1)) i (f i) m (rw (lt-ltb i (i + 1) (omega arith)) refl)
-    (λ t l h. ap (λ (b : Bool). cond b (f t) 0)
+    (ap (set (tabulate n (filled f i)) i) own
+    ∙ set-tabulate n (filled f i) (filled f (i + 1)) i
+    (λ t h. ap (λ (b : Bool). cond b (f t) 0)
     (same (ltb t i) (ltb t (i + 1)) (λ q. lt-ltb t (i + 1) (omega (arith, ltb-true t i q)))
     (λ q. lt-ltb t i (omega (arith, h, ltb-true t (i + 1) q))))))
+  where
+    own : f i ≡ filled f (i + 1) i
+    own = rw (lt-ltb i (i + 1) (omega arith)) refl
 
 pub filled-all : (n : ℕ) (f : ℕ → ℕ) → tabulate n (filled f n) ≡ tabulate n f
 unfolding filled

@@ -1,6 +1,6 @@
 -- A tidy state is the state that stands for its notes. Assumes nothing.
-use mathlib.Core.Path.{_≡_, refl, sym, ap, _∙_, fun-ext}
-use mathlib.Core.Bool.{Bool, true, false, cond}
+use mathlib.Core.Path.{_≡_, refl, sym, ap, ap₂, _∙_, fun-ext}
+use mathlib.Core.Bool.{Bool, true, false, cond, _&&_, not}
 use mathlib.Core.List.{List}
 use mathlib.Core.Option.{none, some}
 use Prim.Native.Nat.{ℕ, _<_}
@@ -14,16 +14,17 @@ use Rattle.task_set.specs.Bounded.{all, any, count, tabulate}
 use Rattle.task_set.specs.Sets.{width, has, setOf}
 use Rattle.task_set.proofs.Bounded.{any-none, count-cong}
 use Rattle.task_set.proofs.Cover.{counted}
-use Rattle.task_set.proofs.Members.{has-setOf, setOf-small, set-ext}
+use Rattle.task_set.proofs.Members.{has-setOf, has-without, setOf-small, set-ext}
 use Rattle.task_set.proofs.Tables.{length-tabulate, getD-tabulate}
 use Rattle.plan.specs.Rules.{mostTasks}
 use Rattle.plan.specs.Refusals.{entryAt}
 use Rattle.plan.proofs.Accepted.{Accepted, accepted}
 use Rattle.dispatch_theory.proofs.Reorder.{count-upto}
-use Rattle.runs.specs.Running.{over, given, orZero, hasStarted, hasFinished}
+use Rattle.runs.specs.Running.{over, given, orZero, hasStarted, hasFinished, isRunning}
 use Rattle.live.specs.declared.State.{State}
 use Rattle.live.specs.States.{isStarted, notesOf, stateOf}
-use Rattle.live.specs.Steps.{Tidy}
+use Rattle.live.specs.Steps.{Tidy, firstTasks, runningOf}
+use Rattle.live.proofs.Standing.{has-first}
 
 -- what is noted once it is there
 pub given-cond : (b : Bool) (x : ℕ) → given (cond b (some x) none) ≡ b
@@ -41,6 +42,13 @@ module _ (s : State) where
 
   pub finished-notes : (t : ℕ) → hasFinished (notesOf s) t ≡ has (s .finished) t
   finished-notes t = given-cond (has (s .finished) t) (getD (s .finishes) t 0)
+
+  -- the running tasks
+  pub running-notes : (t : ℕ) → t < width → has (runningOf s) t ≡ isRunning (notesOf s) t
+  unfolding isStarted
+  running-notes t l =
+      has-without (firstTasks (s .constraint .order) (s .started)) (s .finished) t
+      ∙ ap₂ (λ (x z : Bool). x && not z) (has-first (s .constraint .order) (s .started) t l ∙ sym (started-notes t)) (sym (finished-notes t))
 
   pub over-notes : over (s .plan) (notesOf s) ≡ all (s .plan .tasks) (has (s .finished))
   unfolding over

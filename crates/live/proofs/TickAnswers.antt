@@ -1,133 +1,134 @@
--- What a tick answers, test by test. Assumes nothing.
+-- What a tick answers. Assumes nothing.
 use mathlib.Core.Path.{_≡_, refl, sym, ap, _∙_}
-use mathlib.Core.Bool.{true, false}
-use Prim.Native.Nat.{ℕ, _+_, _^_, _<_}
+use mathlib.Core.Bool.{Bool, true, false, cond}
+use mathlib.Core.List.{List}
+use Prim.Native.Nat.{ℕ, _+_, _^_, _≤_, _<_}
+use native.Mathlib.Nat.{lt-of-le-of-lt}
 use native.Mathlib.Omega.{arith}
-use borrow.Author.Tests.{ne-eqb, eq-eqb}
-use lib.Bits.{bitAnd}
-use Rattle.task_set.specs.Sets.{width, has, without, lowest}
+use borrow.Author.Tests.{eqb-true, ne-eqb, eq-eqb}
+use lib.Bits.{bitAnd, and-le-l}
+use lib.Dec.{eqb}
+use Rattle.task_set.specs.Bounded.{all, tabulate}
+use Rattle.task_set.specs.Sets.{width, has, without}
 use Rattle.task_set.proofs.Truth.{by-test}
 use Rattle.task_set.proofs.Members.{has-none, without-small}
 use Rattle.plan.specs.declared.Verdict.{Verdict}
+use Rattle.plan.specs.Rules.{mostTasks}
 use Rattle.plan.specs.Refusals.{refused, accepted, unlessAt, firstRefusal}
 use Rattle.plan.proofs.Accepted.{Accepted, accepted as taken}
-use Rattle.runs.specs.Running.{Notes, entries, isRunning, dispatch, step, over}
+use Rattle.runs.specs.Running.{Notes, entries, dispatch, step, over}
 use Rattle.runs.specs.Journal.{idle, early, overdue, refusal, newlyStarted}
 use Rattle.runs.proofs.Sound.{report-timely}
 use Rattle.live.specs.declared.State.{State}
 use Rattle.live.specs.States.{notesOf}
 use Rattle.live.specs.Soundness.{isSound}
 use Rattle.live.specs.Ticks.{moved, stayed, tickVerdict, ticked}
-use Rattle.live.specs.Steps.{firstTasks, reached, reportedState}
-use Rattle.live.proofs.Reports.{set-empty, set-faulty, runs, idle-set, early-set, overdue-set}
+use Rattle.live.specs.declared.sets.Marks.{Marks}
+use Rattle.live.specs.declared.verdicts.Judged.{Judged}
+use Rattle.live.specs.Steps.{reached, marksIn, runningOf, usersOf, unlessEmpty, verdictBy, stampAt, nextState, walkedOn, Judges}
+use Rattle.live.proofs.Standing.{tasks-small}
+use Rattle.live.proofs.StateBack.{over-notes}
+use Rattle.live.proofs.Reports.{unless-set, idle-set, early-set, overdue-set}
 use Rattle.live.proofs.ReportedStates.{Shaped, sound-checked, sound-few, reported-notes}
 
 module _ (s : State) (report : ℕ) where
-  n : Notes
-  n = notesOf s
-
   pub says-12 : isSound s ≡ false → tickVerdict s report ≡ refused 12 0
   unfolding tickVerdict firstRefusal
   says-12 e = rw e refl
 
-  module _ (h : Shaped s) (sound : isSound s ≡ true) where
-    a : Accepted (s .plan) (s .constraint)
-    a = taken (s .plan) (s .constraint) (sound-checked s h sound)
-
+  module _ (sound : isSound s ≡ true) where
     sound-verdict : tickVerdict s report ≡ refusal (s .plan) (s .constraint) (notesOf s) report
     unfolding tickVerdict firstRefusal
     sound-verdict = rw sound refl
 
-    pub says-13 : over (s .plan) (notesOf s) ≡ true → tickVerdict s report ≡ refused 13 0
-    unfolding refusal
-    says-13 e = sound-verdict ∙ rw e refl
+    module _ (small : report < 2 ^ width) where
+      a : Accepted (s .plan) (s .constraint)
+      a = taken (s .plan) (s .constraint) (sound-checked s sound)
 
-    -- the tests that follow, with the sets that the tick computes
-    module _ (goes-on : over (s .plan) (notesOf s) ≡ false) (small : report < 2 ^ width) {begun running : ℕ}
-        (e : begun ≡ firstTasks (s .constraint .order) (s .started)) (f : running ≡ without begun (s .finished)) where
-      running-set : (t : ℕ) → t < width → has running t ≡ isRunning (notesOf s) t
-      running-set = runs s a (sound-few s h sound) e f
+      few : s .started ≤ s .plan .tasks
+      few = sound-few s sound
 
-      past-15 : Verdict
-      past-15 = unlessAt 16 width (overdue (s .plan) (s .constraint) (notesOf s) report) accepted
+      -- the faulty sets of 14, 15 and 16
+      abbrev idles : ℕ
+      idles = without report (runningOf s)
 
-      past-14 : Verdict
-      past-14 = unlessAt 15 width (early (s .plan) (s .constraint) (notesOf s) report) past-15
+      abbrev earlies : ℕ
+      earlies = without report (marksIn s .ripe)
 
-      after-13 : tickVerdict s report ≡ unlessAt 14 width (idle (notesOf s) report) past-14
-      unfolding refusal past-14 past-15
-      after-13 = sound-verdict ∙ rw goes-on refl
+      abbrev overdues : ℕ
+      overdues = without (bitAnd (marksIn s .due) (runningOf s)) report
 
-      module _ {x : ℕ} (e14 : x ≡ without report running) where
-        small-14 : x < 2 ^ width
-        small-14 = rw e14 (without-small width report running small)
+      -- what follows 14, where no reported task is idle
+      after-14 : idles ≡ 0
+          → unlessAt 15 width (early (s .plan) (s .constraint) (notesOf s) report)
+          (unlessAt 16 width (overdue (s .plan) (s .constraint) (notesOf s) report) accepted)
+          ≡ unlessEmpty 15 earlies (unlessEmpty 16 overdues accepted)
+      unfolding reached
+      after-14 e =
+          unless-set 15 _ _ (without-small width report _ small) (early-set s a few report no-idle)
+          ∙ ap (unlessEmpty 15 earlies)
+          (unless-set 16 _ _ (without-small width _ report (lt-of-le-of-lt (and-le-l _ _) (tasks-small _ _ _))) (overdue-set s a few report))
+        where
+          no-idle : (t : ℕ) → t < width → idle (notesOf s) report t ≡ false
+          no-idle t l = sym (idle-set s a few report t l) ∙ ap (λ (x : ℕ). has x t) e ∙ has-none t
 
-        idle-is : (t : ℕ) → t < width → has x t ≡ idle (notesOf s) report t
-        idle-is = idle-set s a (sound-few s h sound) report running running-set e14
+      -- what follows a refusal is of no account
+      refused-14 : (v w : Verdict) → eqb idles 0 ≡ false → unlessEmpty 14 idles v ≡ unlessEmpty 14 idles w
+      unfolding unlessEmpty
+      refused-14 v w q = rw q
 
-        pub says-14 : (x ≡ 0 → ⊥) → tickVerdict s report ≡ refused 14 (lowest x)
-        says-14 g = after-13 ∙ set-faulty 14 (idle (notesOf s) report) past-14 small-14 idle-is g
+      -- 13 to 16, by the sets that the tick computes
+      pub verdict-by : {m : Marks} {done : Bool} → m ≡ marksIn s → done ≡ all (s .plan .tasks) (has (s .finished))
+          → verdictBy m done (s .finished) report ≡ tickVerdict s report
+      unfolding verdictBy refusal
+      verdict-by e f =
+          rw (e, f, ← over-notes s)
+          (ap (cond (over (s .plan) (notesOf s)) (refused 13 0))
+          (by-test (eqb idles 0) (λ q. ap (unlessEmpty 14 idles) (sym (after-14 (eqb-true idles 0 q)))) (refused-14 _ _)
+          ∙ sym (unless-set 14 _ _ (without-small width report _ small) (idle-set s a few report)))
+          ∙ sym sound-verdict)
 
-        module _ (none : x ≡ 0) {z y : ℕ}
-            (e15 : z ≡ reached (s .plan .bcet) (s .starts) (s .constraint .order) (s .constraint .chosen) (s .started) (s .instant + 1))
-            (f15 : y ≡ without report z) where
-          after-14 : tickVerdict s report ≡ past-14
-          after-14 = after-13 ∙ set-empty 14 (idle (notesOf s) report) past-14 small-14 idle-is none
+-- ---- what a tick is judged to be
 
-          -- no reported task is idle
-          pub no-idle : (t : ℕ) → t < width → idle (notesOf s) report t ≡ false
-          no-idle t l = sym (idle-is t l) ∙ ap (λ (u : ℕ). has u t) none ∙ has-none t
+pub judged-unsound : (s : State) (report : ℕ) → isSound s ≡ false → {j : Judged} → (j .number ≡ 12) × (j .place ≡ 0) → Judges s report j
+judged-unsound s report e f =
+    record {
+      verdict = rw (f .0, f .1) (sym (says-12 s report e));
+      begun = λ q. absurd (omega (arith, f .0));
+      users = λ q. absurd (omega (arith, f .0));
+    }
 
-          small-15 : y < 2 ^ width
-          small-15 = rw f15 (without-small width report z small)
-
-          early-is : (t : ℕ) → t < width → has y t ≡ early (s .plan) (s .constraint) (notesOf s) report t
-          early-is = early-set s a (sound-few s h sound) report running running-set no-idle e15 f15
-
-          pub says-15 : (y ≡ 0 → ⊥) → tickVerdict s report ≡ refused 15 (lowest y)
-          unfolding past-14
-          says-15 g = after-14 ∙ set-faulty 15 (early (s .plan) (s .constraint) (notesOf s) report) past-15 small-15 early-is g
-
-          module _ (none-15 : y ≡ 0) {v u : ℕ}
-              (e16 : v ≡ reached (s .plan .wcet) (s .starts) (s .constraint .order) (s .constraint .chosen) (s .started) (s .instant + 1))
-              (f16 : u ≡ without (bitAnd v running) report) (small-16 : u < 2 ^ width) where
-            after-15 : tickVerdict s report ≡ past-15
-            unfolding past-14
-            after-15 = after-14 ∙ set-empty 15 (early (s .plan) (s .constraint) (notesOf s) report) past-15 small-15 early-is none-15
-
-            overdue-is : (t : ℕ) → t < width → has u t ≡ overdue (s .plan) (s .constraint) (notesOf s) report t
-            overdue-is = overdue-set s a (sound-few s h sound) report running running-set e16 f16
-
-            pub says-16 : (u ≡ 0 → ⊥) → tickVerdict s report ≡ refused 16 (lowest u)
-            unfolding past-15
-            says-16 g = after-15 ∙ set-faulty 16 (overdue (s .plan) (s .constraint) (notesOf s) report) accepted small-16 overdue-is g
-
-            pub accepts : u ≡ 0 → tickVerdict s report ≡ accepted
-            unfolding past-15
-            accepts g = after-15 ∙ set-empty 16 (overdue (s .plan) (s .constraint) (notesOf s) report) accepted small-16 overdue-is g
+pub judged-sound : (s : State) (report : ℕ) → report < 2 ^ width → isSound s ≡ true
+    → {v : Verdict} {m : Marks} {done : Bool} {u : List ℕ} → m ≡ marksIn s → done ≡ all (s .plan .tasks) (has (s .finished)) → u ≡ usersOf s
+    → v ≡ verdictBy m done (s .finished) report → Judges s report (record { number = v .number; place = v .place; begun = m .begun; users = u })
+judged-sound s report small sound e f g k =
+    record {
+      verdict = k ∙ verdict-by s report sound small e f;
+      begun = λ q. ap (λ (m : Marks). m .begun) e;
+      users = λ q. g;
+    }
 
 -- ---- an accepted tick
 
-module _ (s : State) (report : ℕ) (h : Shaped s) (small : report < 2 ^ width) (ok : tickVerdict s report .number ≡ 0) where
+module _ (s : State) (report : ℕ) (ok : tickVerdict s report .number ≡ 0) where
   pub accepted-sound : isSound s ≡ true
   accepted-sound =
       by-test (isSound s) (λ e. e) (λ e. let z : _≡_ {A = ℕ} 12 0 = sym (ap (λ (v : Verdict). v .number) (says-12 s report e)) ∙ ok in
       absurd (omega arith))
 
   accepted-refusal : refusal (s .plan) (s .constraint) (notesOf s) report .number ≡ 0
-  accepted-refusal = sym (ap (λ (v : Verdict). v .number) (sound-verdict s report h accepted-sound)) ∙ ok
+  accepted-refusal = sym (ap (λ (v : Verdict). v .number) (sound-verdict s report accepted-sound)) ∙ ok
 
   pub accepted-idle : (t : ℕ) → t < width → idle (notesOf s) report t ≡ false
   accepted-idle t l = report-timely (s .plan) (s .constraint) (notesOf s) report accepted-refusal t l .0
 
-  -- the walk of the next instant is one instant of the running rules
-  pub accepted-moved :
-      moved (s .plan) (s .constraint) (notesOf (reportedState s report))
-      (dispatch (s .plan) (s .constraint) (entries (s .constraint)) (notesOf (reportedState s report)))
-      ≡ ticked s report
+  -- the walk of the next instant, at which the reported tasks have their finishes, is one instant of the running rules
+  pub accepted-moved : Shaped s → report < 2 ^ width → {finishes : List ℕ}
+      → finishes ≡ tabulate mostTasks (stampAt (s .finishes) report (s .instant + 1)) → walkedOn (nextState s report finishes) ≡ ticked s report
   unfolding ticked step newlyStarted
-  accepted-moved =
-      ap (λ (m : Notes). moved (s .plan) (s .constraint) m (dispatch (s .plan) (s .constraint) (entries (s .constraint)) m))
+  accepted-moved h small e =
+      ap (λ (l : List ℕ). walkedOn (nextState s report l)) e
+      ∙ ap (λ (m : Notes). moved (s .plan) (s .constraint) m (dispatch (s .plan) (s .constraint) (entries (s .constraint)) m))
       (reported-notes s h accepted-sound report small accepted-idle)
       ∙ rw (eq-eqb (tickVerdict s report .number) 0 ok) refl
 

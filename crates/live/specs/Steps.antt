@@ -6,15 +6,22 @@ use Prim.Native.Nat.{ℕ, zero, suc, _+_, _-_, _^_, _≤_, _<_}
 use lib.Bits.{bitAnd, bitOr}
 use lib.Dec.{eqb, leb, ltb}
 use lib.ListN.{getD, length, set}
-use Rattle.task_set.specs.Bounded.{any, implies, tabulate}
-use Rattle.task_set.specs.Sets.{width, has, insert, setOf, subset, size, without}
+use Rattle.task_set.specs.Bounded.{all, any, implies, tabulate}
+use Rattle.task_set.specs.Sets.{width, has, insert, lowest, setOf, subset, size, without}
 use Rattle.plan.specs.declared.Plan.{Plan}
 use Rattle.plan.specs.declared.Constraint.{Constraint}
 use Rattle.plan.specs.Rules.{mostTypes, mostTasks, timeOf, predecessorsOf}
-use Rattle.plan.specs.Refusals.{entryAt, verdict}
+use Rattle.plan.specs.declared.Verdict.{Verdict}
+use Rattle.plan.specs.Refusals.{entryAt, refused, accepted, verdict}
+use Rattle.runs.specs.Running.{entries, dispatch}
 use Rattle.live.specs.declared.State.{State}
+use Rattle.live.specs.declared.Ticked.{Ticked}
+use Rattle.live.specs.declared.sets.Marks.{Marks}
+use Rattle.live.specs.declared.verdicts.Judged.{Judged}
 use Rattle.live.specs.declared.walk.Walked.{Walked}
-use Rattle.live.specs.States.{isStarted}
+use Rattle.live.specs.States.{isStarted, notesOf}
+use Rattle.live.specs.Soundness.{lastInstant}
+use Rattle.live.specs.Ticks.{moved, tickVerdict}
 
 -- the tasks at the first n positions of the order that pass q
 unfoldable pub tasksAt : List ℕ → ℕ → (ℕ → Bool) → ℕ
@@ -50,6 +57,42 @@ allTimesFit starts finishes begun finished instant t =
 unfoldable pub enoughFor : List ℕ → List ℕ → ℕ → ℕ → Bool
 enoughFor units users running k = leb (size (bitAnd (getD users k 0) running)) (getD units k 0)
 
+-- what one pass over the n started positions finds
+abbrev pub marksOf : List ℕ → List ℕ → List ℕ → List ℕ → List ℕ → ℕ → ℕ → Marks
+marksOf bcet wcet starts order chosen n instant =
+    record {
+      begun = firstTasks order n;
+      spent = reached wcet starts order chosen n instant;
+      ripe = reached bcet starts order chosen n (instant + 1);
+      due = reached wcet starts order chosen n (instant + 1);
+    }
+
+-- the same of a state
+abbrev pub marksIn : State → Marks
+marksIn s =
+    marksOf (s .plan .bcet) (s .plan .wcet) (s .starts) (s .constraint .order) (s .constraint .chosen) (s .started) (s .instant)
+
+-- the clauses of 12 after the first two, by sets
+unfoldable pub soundBy : List ℕ → List ℕ → List ℕ → List ℕ → Marks → Bool → ℕ → ℕ → Bool
+soundBy units users starts finishes m over finished instant =
+    let running = without (m .begun) finished in
+    (all width (allTimesFit starts finishes (m .begun) finished instant) && eqb (bitAnd (m .spent) running) 0)
+    && (all mostTypes (enoughFor units users running) && (leb instant lastInstant && (over || ltb instant lastInstant)))
+
+-- refused at the lowest member of a faulty set, otherwise what follows
+unfoldable pub unlessEmpty : ℕ → ℕ → Verdict → Verdict
+unlessEmpty number faulty rest = cond (eqb faulty 0) rest (refused number (lowest faulty))
+
+-- 13 to 16, by sets
+unfoldable pub verdictBy : Marks → Bool → ℕ → ℕ → Verdict
+verdictBy m over finished report =
+    let running = without (m .begun) finished in
+    cond over (refused 13 0)
+    (unlessEmpty 14 (without report running)
+    (unlessEmpty 15 (without report (m .ripe))
+    (unlessEmpty 16 (without (bitAnd (m .due) running) report)
+    accepted)))
+
 -- a state that is handed over in parts
 abbrev pub stateFrom : Plan → Constraint → ℕ → ℕ → ℕ → List ℕ → List ℕ → State
 stateFrom p c instant started finished starts finishes =
@@ -76,18 +119,31 @@ walkFrom units predecessors order chosen users instant finished (suc left) w =
     let further = walkFrom units predecessors order chosen users instant finished left (gone order instant w) in
     cond (mayGo (predecessorsOf predecessors t) finished (getD users k 0) (w .running) (getD units k 0)) further w
 
+-- each type's users in a state
+abbrev pub usersOf : State → List ℕ
+usersOf s = tabulate mostTypes (typeUsers (s .constraint .order) (s .constraint .chosen) (s .constraint .len))
+
+-- the running tasks of a state
+abbrev pub runningOf : State → ℕ
+runningOf s = without (firstTasks (s .constraint .order) (s .started)) (s .finished)
+
 -- the walk of a state from where it stands
 unfoldable pub walkOf : State → Walked
 walkOf s =
-    walkFrom (s .plan .units) (s .plan .predecessors) (s .constraint .order) (s .constraint .chosen)
-    (tabulate mostTypes (typeUsers (s .constraint .order) (s .constraint .chosen) (s .constraint .len))) (s .instant) (s .finished)
+    walkFrom (s .plan .units) (s .plan .predecessors) (s .constraint .order) (s .constraint .chosen) (usersOf s) (s .instant) (s .finished)
     (s .constraint .len - s .started)
-    (record {
-      begun = s .started;
-      running = without (firstTasks (s .constraint .order) (s .started)) (s .finished);
-      fresh = 0;
-      starts = s .starts;
-    })
+    (record { begun = s .started; running = runningOf s; fresh = 0; starts = s .starts })
+
+-- a state after the walk of its instant, and the tasks that the walk started
+abbrev pub walkedOn : State → Ticked
+walkedOn s =
+    moved (s .plan) (s .constraint) (notesOf s) (dispatch (s .plan) (s .constraint) (entries (s .constraint)) (notesOf s))
+
+-- what a tick is judged to be: its verdict and, where it is accepted, what the walk needs
+pub record Judges (s : State) (report : ℕ) (j : Judged) : Type 0 where
+  pub verdict : refused (j .number) (j .place) ≡ tickVerdict s report
+  pub begun : j .number ≡ 0 → j .begun ≡ firstTasks (s .constraint .order) (s .started)
+  pub users : j .number ≡ 0 → j .users ≡ usersOf s
 
 -- ---- the reported tasks
 
@@ -95,11 +151,14 @@ walkOf s =
 unfoldable pub stampAt : List ℕ → ℕ → ℕ → ℕ → ℕ
 stampAt finishes report instant t = cond (has report t) instant (getD finishes t 0)
 
--- the state at the next instant, with the reported tasks finished
+-- the state at the next instant, with the reported tasks finished and these finishes
+abbrev pub nextState : State → ℕ → List ℕ → State
+nextState s report finishes =
+    stateFrom (s .plan) (s .constraint) (s .instant + 1) (s .started) (bitOr (s .finished) report) (s .starts) finishes
+
+-- the same with the finishes that the report tells
 abbrev pub reportedState : State → ℕ → State
-reportedState s report =
-    stateFrom (s .plan) (s .constraint) (s .instant + 1) (s .started) (bitOr (s .finished) report) (s .starts)
-    (tabulate mostTasks (stampAt (s .finishes) report (s .instant + 1)))
+reportedState s report = nextState s report (tabulate mostTasks (stampAt (s .finishes) report (s .instant + 1)))
 
 -- what the check and the tests of soundness leave for the walk to rely on
 pub record Tidy (s : State) : Type 0 where
@@ -111,3 +170,9 @@ pub record Tidy (s : State) : Type 0 where
   pub finished-small : s .finished < 2 ^ width
   pub starts-long : length (s .starts) ≡ mostTasks
   pub finishes-long : length (s .finishes) ≡ mostTasks
+
+-- a tidy state with its running tasks and each type's users
+pub record Walkable (s : State) (users : List ℕ) (running : ℕ) : Type 0 where
+  pub tidy : Tidy s
+  pub users-are : users ≡ usersOf s
+  pub running-are : running ≡ runningOf s

@@ -65,15 +65,10 @@ pub fn start(p: Plan, c: Constraint) -> Ticked
             state,
         };
     }
-    walk::walk_on(State {
-        plan: p,
-        constraint: c,
-        instant: 0,
-        started: 0,
-        finished: 0,
-        starts: [0; plan::MOST_TASKS],
-        finishes: [0; plan::MOST_TASKS],
-    })
+    let len = c.len;
+    let users = sets::type_users(&c.order, &c.chosen, len);
+    let zeros = [0; plan::MOST_TASKS];
+    walk::walk_on(p, c, users, 0, 0, 0, 0, zeros, zeros)
 }
 
 impl State {
@@ -82,15 +77,25 @@ impl State {
     pub fn tick(self, report: u64) -> Ticked
         ensures { λ r. ⌜ r ≡ ticked self report ⌝ }
     {
-        let v = verdicts::tick_verdict(self, report);
-        if v.number != 0 {
+        let j = verdicts::judge(self, report);
+        if j.number != 0 {
             return Ticked {
-                number: v.number,
-                place: v.place,
+                number: j.number,
+                place: j.place,
                 started: 0,
                 state: self,
             };
         }
-        walk::walk_on(step::reported(self, report))
+        let p = self.plan;
+        let c = self.constraint;
+        let starts = self.starts;
+        let before = self.finishes;
+        let n = self.started;
+        let instant = self.instant + 1;
+        let finished = self.finished | report;
+        let running = task_set::difference(j.begun, finished);
+        let finishes = step::stamped(&before, report, instant);
+        let users = j.users;
+        walk::walk_on(p, c, users, running, instant, n, finished, starts, finishes)
     }
 }

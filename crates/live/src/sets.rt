@@ -6,7 +6,7 @@ ghost use Rattle.task_set.specs.Bounded.{tabulate};
 ghost use Rattle.task_set.specs.Sets.{insert};
 ghost use Rattle.plan.specs.Rules.{mostTasks, mostTypes};
 ghost use Rattle.plan.specs.Refusals.{entryAt};
-ghost use Rattle.live.specs.Steps.{firstTasks, reached, typeUsers};
+ghost use Rattle.live.specs.Steps.{marksOf, typeUsers};
 use plan::MOST_PAIRS;
 use plan::MOST_TASKS;
 use plan::MOST_TYPES;
@@ -23,20 +23,6 @@ fn inserted_if(hit: bool, s: u64, t: usize) -> u64
 {
     if hit {
         return task_set::inserted(s, t);
-    }
-    s
-}
-
-// The first n tasks of the order.
-pub fn first_tasks(order: &[usize; MOST_TASKS], n: usize) -> u64
-    requires { ⌜ n ≤ mostTasks ⌝ }
-    ensures { λ r. ⌜ r ≡ firstTasks (now (order .entry)) n ⌝ }
-{
-    let mut s: u64 = 0;
-    let mut i = 0;
-    while i < n {
-        s = task_set::inserted(s, order[i]);
-        i += 1;
     }
     s
 }
@@ -61,25 +47,49 @@ pub fn type_users<'a>(
     users
 }
 
-// Those of the first n tasks whose start and time, best or worst, come to the instant at the latest.
-pub fn reached_by<'a>(
-    times: &'a [u32; MOST_PAIRS],
+// The started tasks; those whose worst time has come; those whose best and whose worst time comes at the next instant.
+pub struct Marks {
+    pub begun: u64,
+    pub spent: u64,
+    pub ripe: u64,
+    pub due: u64,
+}
+
+// One pass over the n started positions.
+pub fn mark_started<'a>(
+    bcet: &'a [u32; MOST_PAIRS],
+    wcet: &'a [u32; MOST_PAIRS],
     starts: &'a [u32; MOST_TASKS],
     order: &'a [usize; MOST_TASKS],
     chosen: &'a [usize; MOST_TASKS],
     n: usize,
-    instant: u64,
-) -> u64
+    instant: u32,
+) -> Marks
     requires { ⌜ (n ≤ mostTasks) × ((j : ℕ) → j < n → entryAt (now order) j < mostTasks) ⌝ }
-    ensures { λ r. ⌜ r ≡ reached (now (times .entry)) (now (starts .entry)) (now (order .entry)) (now (chosen .entry)) n instant ⌝ }
+    ensures { λ r. ⌜ r ≡ marksOf (now (bcet .entry)) (now (wcet .entry)) (now (starts .entry)) (now (order .entry)) (now (chosen .entry)) n instant ⌝ }
 {
-    let mut s: u64 = 0;
+    let at = wide(instant);
+    let mut begun: u64 = 0;
+    let mut spent: u64 = 0;
+    let mut ripe: u64 = 0;
+    let mut due: u64 = 0;
     let mut i = 0;
     while i < n {
         let t = order[i];
-        let end = wide(starts[t]) + wide(plan::time_of(times, t, chosen[i]));
-        s = inserted_if(end <= instant, s, t);
+        let k = chosen[i];
+        let start = wide(starts[t]);
+        let best = start + wide(plan::time_of(bcet, t, k));
+        let worst = start + wide(plan::time_of(wcet, t, k));
+        begun = task_set::inserted(begun, t);
+        spent = inserted_if(worst <= at, spent, t);
+        ripe = inserted_if(best <= at + 1, ripe, t);
+        due = inserted_if(worst <= at + 1, due, t);
         i += 1;
     }
-    s
+    Marks {
+        begun,
+        spent,
+        ripe,
+        due,
+    }
 }

@@ -4,12 +4,8 @@ ghost use Prim.Native.Nat.{_≤_};
 ghost use Rattle.task_set.specs.Bounded.{all};
 ghost use Rattle.task_set.specs.Sets.{has, width};
 ghost use Rattle.plan.specs.Rules.{mostTasks, mostTypes};
-ghost use Rattle.live.specs.Soundness.{isSound};
-ghost use Rattle.live.specs.Steps.{allTimesFit, enoughFor, timesFit};
-use crate::State;
-use crate::sets::first_tasks;
-use crate::sets::reached_by;
-use crate::sets::type_users;
+ghost use Rattle.live.specs.Steps.{allTimesFit, enoughFor, soundBy, timesFit};
+use crate::sets::Marks;
 use plan::MOST_TASKS;
 use plan::MOST_TYPES;
 
@@ -71,42 +67,22 @@ pub fn is_over(tasks: usize, finished: u64) -> bool
     (task_set::member_count(done) as usize) == tasks
 }
 
-pub fn is_sound(s: State) -> bool
-    ensures { λ r. ⌜ r ≡ isSound s ⌝ }
+// The clauses after the first two, of a state whose marks and types' users are known.
+pub fn is_sound<'a>(
+    units: &'a [u32; MOST_TYPES],
+    users: &'a [u64; MOST_TYPES],
+    starts: &'a [u32; MOST_TASKS],
+    finishes: &'a [u32; MOST_TASKS],
+    m: Marks,
+    over: bool,
+    finished: u64,
+    instant: u32,
+) -> bool
+    ensures { λ r. ⌜ r ≡ soundBy (now (units .entry)) (now (users .entry)) (now (starts .entry)) (now (finishes .entry)) m over finished instant ⌝ }
 {
-    let p = s.plan;
-    let c = s.constraint;
-    let types = p.types;
-    let tasks = p.tasks;
-    let len = c.len;
-    let v = plan::check_parts(
-        types,
-        &p.units,
-        tasks,
-        &p.bcet,
-        &p.wcet,
-        &p.predecessors,
-        len,
-        &c.order,
-        &c.chosen,
-    );
-    if v.number != 0 {
-        return false;
-    }
-    let n = s.started;
-    if tasks < n {
-        return false;
-    }
-    let starts = s.starts;
-    let finishes = s.finishes;
-    let finished = s.finished;
-    let instant = s.instant;
-    let begun = first_tasks(&c.order, n);
-    let running = task_set::difference(begun, finished);
-    let spent = reached_by(&p.wcet, &starts, &c.order, &c.chosen, n, instant as u64) & running;
-    let users = type_users(&c.order, &c.chosen, len);
-    let early = (instant <= LAST_INSTANT) & (is_over(tasks, finished) | (instant < LAST_INSTANT));
-    all_times_fit(&starts, &finishes, begun, finished, instant)
-        & (spent == 0)
-        & (enough_units(&p.units, &users, running) & early)
+    let running = task_set::difference(m.begun, finished);
+    let early = (instant <= LAST_INSTANT) & (over | (instant < LAST_INSTANT));
+    all_times_fit(starts, finishes, m.begun, finished, instant)
+        & ((m.spent & running) == 0)
+        & (enough_units(units, users, running) & early)
 }

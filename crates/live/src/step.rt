@@ -1,11 +1,9 @@
-// The next instant of a run state: the reported tasks are finished.
+// The finishes at the next instant: the reported tasks are finished.
 ghost use mathlib.Core.Path.{_≡_};
 ghost use mathlib.Core.Bool.{cond};
-ghost use Prim.Native.Nat.{_+_, _<_, _^_};
 ghost use Rattle.task_set.specs.Bounded.{tabulate};
 ghost use Rattle.plan.specs.Rules.{mostTasks};
-ghost use Rattle.live.specs.Steps.{reportedState, stampAt};
-use crate::State;
+ghost use Rattle.live.specs.Steps.{stampAt};
 use plan::MOST_TASKS;
 
 fn pick(hit: bool, a: u32, b: u32) -> u32
@@ -18,7 +16,7 @@ fn pick(hit: bool, a: u32, b: u32) -> u32
 }
 
 // The finishes, with the instant for each reported task.
-fn stamped(finishes: &[u32; MOST_TASKS], report: u64, instant: u32) -> [u32; MOST_TASKS]
+pub fn stamped(finishes: &[u32; MOST_TASKS], report: u64, instant: u32) -> [u32; MOST_TASKS]
     ensures { λ r. ⌜ r ≡ tabulate mostTasks (stampAt (now (finishes .entry)) report instant) ⌝ }
 {
     let mut stamps = [0u32; MOST_TASKS];
@@ -29,25 +27,4 @@ fn stamped(finishes: &[u32; MOST_TASKS], report: u64, instant: u32) -> [u32; MOS
         t += 1;
     }
     stamps
-}
-
-pub fn reported(s: State, report: u64) -> State
-    requires { ⌜ s .instant + 1 < 2 ^ 32 ⌝ }
-    ensures { λ r. ⌜ r ≡ reportedState s report ⌝ }
-{
-    let instant = s.instant + 1;
-    let before = s.finishes;
-    let finishes = stamped(&before, report, instant);
-    let plan = s.plan;
-    let constraint = s.constraint;
-    let starts = s.starts;
-    State {
-        plan,
-        constraint,
-        instant,
-        started: s.started,
-        finished: s.finished | report,
-        starts,
-        finishes,
-    }
 }

@@ -1,14 +1,24 @@
-// The refusals of a tick (document 01, 12 to 16), in their order.
+// What a tick finds: a refusal (document 01, 12 to 16, in their order), or what the walk needs to go on.
 ghost use mathlib.Core.Path.{_≡_};
 ghost use Rattle.plan.specs.Refusals.{refused as refusedBy};
 ghost use Rattle.task_set.specs.Sets.{lowest};
-ghost use Rattle.live.specs.Ticks.{tickVerdict};
+ghost use Rattle.live.specs.Steps.{Judges, verdictBy};
 use crate::State;
-use crate::sets::first_tasks;
-use crate::sets::reached_by;
+use crate::sets::Marks;
+use crate::sets::mark_started;
+use crate::sets::type_users;
 use crate::sound::is_over;
 use crate::sound::is_sound;
+use plan::MOST_TYPES;
 use plan::Verdict;
+
+// Number and place of a refusal, or 0 and 0 with the started tasks and each type's users.
+pub struct Judged {
+    pub number: u32,
+    pub place: usize,
+    pub begun: u64,
+    pub users: [u64; MOST_TYPES],
+}
 
 fn refused(number: u32, place: usize) -> Verdict
     ensures { λ r. ⌜ r ≡ refusedBy number place ⌝ }
@@ -24,35 +34,87 @@ fn refused_at(number: u32, faulty: u64) -> Verdict
     refused(number, place)
 }
 
-pub fn tick_verdict(s: State, report: u64) -> Verdict
-    ensures { λ r. ⌜ r ≡ tickVerdict s report ⌝ }
+// 13 to 16, of a sound state.
+fn report_verdict(m: Marks, over: bool, finished: u64, report: u64) -> Verdict
+    ensures { λ r. ⌜ r ≡ verdictBy m over finished report ⌝ }
 {
-    if !is_sound(s) {
-        return refused(12, 0);
-    }
-    let p = s.plan;
-    let c = s.constraint;
-    let starts = s.starts;
-    let n = s.started;
-    let finished = s.finished;
-    if is_over(p.tasks, finished) {
+    if over {
         return refused(13, 0);
     }
-    let running = task_set::difference(first_tasks(&c.order, n), finished);
+    let running = task_set::difference(m.begun, finished);
     let idle = task_set::difference(report, running);
     if idle != 0 {
         return refused_at(14, idle);
     }
-    let next = s.instant as u64 + 1;
-    let ripe = reached_by(&p.bcet, &starts, &c.order, &c.chosen, n, next);
-    let early = task_set::difference(report, ripe);
+    let early = task_set::difference(report, m.ripe);
     if early != 0 {
         return refused_at(15, early);
     }
-    let spent = reached_by(&p.wcet, &starts, &c.order, &c.chosen, n, next) & running;
-    let overdue = task_set::difference(spent, report);
+    let overdue = task_set::difference(m.due & running, report);
     if overdue != 0 {
         return refused_at(16, overdue);
     }
     refused(0, 0)
+}
+
+fn unsound() -> Judged
+    ensures { λ r. ⌜ (r .number ≡ 12) × (r .place ≡ 0) ⌝ }
+{
+    Judged {
+        number: 12,
+        place: 0,
+        begun: 0,
+        users: [0; MOST_TYPES],
+    }
+}
+
+pub fn judge(s: State, report: u64) -> Judged
+    ensures { λ r. ⌜ Judges s report r ⌝ }
+{
+    let p = s.plan;
+    let c = s.constraint;
+    let starts = s.starts;
+    let finishes = s.finishes;
+    let types = p.types;
+    let tasks = p.tasks;
+    let len = c.len;
+    let n = s.started;
+    let v = plan::check_parts(
+        types,
+        &p.units,
+        tasks,
+        &p.bcet,
+        &p.wcet,
+        &p.predecessors,
+        len,
+        &c.order,
+        &c.chosen,
+    );
+    if (v.number != 0) | (tasks < n) {
+        return unsound();
+    }
+    let instant = s.instant;
+    let finished = s.finished;
+    let m = mark_started(&p.bcet, &p.wcet, &starts, &c.order, &c.chosen, n, instant);
+    let users = type_users(&c.order, &c.chosen, len);
+    let over = is_over(tasks, finished);
+    if !is_sound(
+        &p.units,
+        &users,
+        &starts,
+        &finishes,
+        m,
+        over,
+        finished,
+        instant,
+    ) {
+        return unsound();
+    }
+    let w = report_verdict(m, over, finished, report);
+    Judged {
+        number: w.number,
+        place: w.place,
+        begun: m.begun,
+        users,
+    }
 }

@@ -3,16 +3,13 @@ ghost use mathlib.Core.Path.{_≡_};
 ghost use Prim.Native.Nat.{ℕ, _-_, _<_, _≤_};
 ghost use Rattle.plan.specs.Rules.{mostTasks, mostTypes};
 ghost use Rattle.plan.specs.Refusals.{entryAt};
-ghost use Rattle.runs.specs.Running.{dispatch, entries};
-ghost use Rattle.live.specs.States.{notesOf};
-ghost use Rattle.live.specs.Ticks.{moved};
-ghost use Rattle.live.specs.Steps.{Tidy, mayGo, walkFrom};
+ghost use Rattle.live.specs.Steps.{Walkable, mayGo, stateFrom, walkFrom, walkedOn};
 use crate::State;
 use crate::Ticked;
-use crate::sets::first_tasks;
-use crate::sets::type_users;
+use plan::Constraint;
 use plan::MOST_TASKS;
 use plan::MOST_TYPES;
+use plan::Plan;
 
 // How far a walk has come: how many tasks of the order have started, those running, those started in it, and the starts.
 pub struct Walked {
@@ -74,21 +71,27 @@ pub fn walk<'a>(
     }
 }
 
-// The state after the walk of its instant, and the tasks that the walk started.
-pub fn walk_on(s: State) -> Ticked
-    requires { ⌜ Tidy s ⌝ }
-    ensures { λ r. ⌜ r ≡ moved (s .plan) (s .constraint) (notesOf s)
-        (dispatch (s .plan) (s .constraint) (entries (s .constraint)) (notesOf s)) ⌝ }
+// The state after the walk of its instant, and the tasks that the walk started. The state is handed over in parts, with its
+// running tasks and each type's users.
+pub fn walk_on(
+    p: Plan,
+    c: Constraint,
+    users: [u64; MOST_TYPES],
+    running: u64,
+    instant: u32,
+    n: usize,
+    finished: u64,
+    starts: [u32; MOST_TASKS],
+    finishes: [u32; MOST_TASKS],
+) -> Ticked
+    requires { ⌜ Walkable (stateFrom p c instant n finished starts finishes) users running ⌝ }
+    ensures { λ r. ⌜ r ≡ walkedOn (stateFrom p c instant n finished starts finishes) ⌝ }
 {
-    let p = s.plan;
-    let c = s.constraint;
+    let units = p.units;
+    let predecessors = p.predecessors;
+    let order = c.order;
+    let chosen = c.chosen;
     let len = c.len;
-    let n = s.started;
-    let finished = s.finished;
-    let instant = s.instant;
-    let users = type_users(&c.order, &c.chosen, len);
-    let running = task_set::difference(first_tasks(&c.order, n), finished);
-    let starts = s.starts;
     let begin = Walked {
         begun: n,
         running,
@@ -96,10 +99,10 @@ pub fn walk_on(s: State) -> Ticked
         starts,
     };
     let w = walk(
-        &p.units,
-        &p.predecessors,
-        &c.order,
-        &c.chosen,
+        &units,
+        &predecessors,
+        &order,
+        &chosen,
         &users,
         len,
         instant,
@@ -107,7 +110,6 @@ pub fn walk_on(s: State) -> Ticked
         begin,
     );
     let after = w.starts;
-    let finishes = s.finishes;
     let state = State {
         plan: p,
         constraint: c,

@@ -1,11 +1,16 @@
 -- `live::start` meets its contract. Assumes nothing.
-use mathlib.Core.Path.{sym, ap, _∙_}
+use mathlib.Core.Path.{_≡_, sym, ap, _∙_}
 use borrow.Author.Needs.{needs}
 use Rattle.plan.specs.declared.Verdict.{Verdict}
+use Rattle.plan.specs.Refusals.{verdict}
 use Rattle.live.specs.Ticks.{stayed}
-use Rattle.live.proofs.FreshStates.{fresh-tidy, start-refused, start-walked}
+use Rattle.live.proofs.Ranges.{len-low, type-low}
+use Rattle.live.proofs.FreshStates.{fresh-walkable, start-refused, start-walked}
 use Rattle.live.proofs.start.Statement.{statement}
 use Rattle.live.proofs.start.Tie as tie
+
+taken : (c : tie.Else1) → verdict (c .before .before .before .args .p) (c .before .before .before .args .t2) .number ≡ 0
+taken c = sym (ap (λ (v : Verdict). v .number) (c .before .before .check .ensures)) ∙ c .if1 .left
 
 check-requires : tie.Need-check-requires
 check-requires c κs = search needs
@@ -16,13 +21,22 @@ no-state-requires c κs = search needs
 returns : tie.Need-returns
 returns c = ap (stayed _) (c .no-state .ensures) ∙ start-refused _ _ (c .before .before .before .check .ensures) (c .before .if1 .taken)
 
+type-users-requires : tie.Need-type-users-requires
+type-users-requires c κs = let y = taken (c .before .before .before) in (len-low _ _ y, type-low _ _ y)
+
 walk-on-requires : tie.Need-walk-on-requires
-walk-on-requires c κs = fresh-tidy _ _ (sym (ap (λ (v : Verdict). v .number) (c .before .before .check .ensures)) ∙ c .if1 .left)
+walk-on-requires c κs = fresh-walkable _ _ (taken (c .before .before .before .before)) (c .type-users .ensures)
 
 returns-2 : tie.Need-returns-2
-returns-2 c =
-    c .walk-on .ensures ∙ start-walked _ _ (sym (ap (λ (v : Verdict). v .number) (c .before .before .before .check .ensures)) ∙ c .before .if1 .left)
+returns-2 c = c .walk-on .ensures ∙ start-walked _ _ (taken (c .before .before .before .before .before))
 
 pub start-spec : {M : Type 1} → statement M
 start-spec =
-    tie.close (tie.spec check-requires no-state-requires returns walk-on-requires returns-2)
+    tie.close
+    (tie.spec
+    check-requires
+    no-state-requires
+    returns
+    type-users-requires
+    walk-on-requires
+    returns-2)

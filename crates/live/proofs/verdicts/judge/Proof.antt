@@ -1,0 +1,89 @@
+-- `live::verdicts::judge` meets its contract. Assumes nothing.
+use mathlib.Core.Path.{_≡_, sym, _∙_}
+use Prim.Native.Nat.{_<_, _^_}
+use native.Mathlib.Omega.{arith}
+use borrow.Author.Needs.{needs}
+use borrow.Author.Tests.{not-true, not-false}
+use Rattle.task_set.specs.Sets.{width}
+use Rattle.live.specs.Soundness.{isSound}
+use Rattle.live.proofs.Judging.{Passed, unsound-first, passed-first, tasks-low, started-low, entries-low, sound-by}
+use Rattle.live.proofs.Ranges.{len-low, type-low}
+use Rattle.live.proofs.TickAnswers.{judged-unsound, judged-sound}
+use Rattle.live.proofs.verdicts.judge.Statement.{statement}
+use Rattle.live.proofs.verdicts.judge.Tie as tie
+
+word : (c : tie.Start) → c .args .report < 2 ^ width
+word c = omega arith
+
+-- back to the entry
+abbrev begin : tie.Else1 → tie.Start
+begin c = c .before .before .before .before .before .before .before .before .before .before .before .before .before .before .before
+
+-- what the first two tests leave
+passed : (c : tie.Else1) → Passed (begin c .args .s)
+passed c = passed-first _ (c .before .before .check-parts .ensures) (c .if1 .left)
+
+-- back to where the first two tests are passed
+abbrev from-marks : tie.After-mark-started → tie.Else1
+from-marks c = c .before .before .before .before .before .before .before .before
+
+abbrev from-sound : tie.After-is-sound → tie.Else1
+from-sound c = from-marks (c .before .before .before .before .before .before .before .before .before .before .before)
+
+-- what the sets say of soundness
+sound-is : (c : tie.After-is-sound) → c .is-sound .result ≡ isSound (begin (from-sound c) .args .s)
+sound-is c =
+    c .is-sound .ensures
+    ∙ sound-by _ (passed (from-sound c)) (c .before .before .before .before .before .before .before .type-users .ensures) (c .before .before .before .before .before .before .before .before .before .before .before .mark-started .ensures) (c .before .before .before .before .before .before .is-over .ensures)
+
+check-parts-requires : tie.Need-check-parts-requires
+check-parts-requires c κs = search needs
+
+unsound-requires : tie.Need-unsound-requires
+unsound-requires c κs = search needs
+
+returns : tie.Need-returns
+returns c = judged-unsound _ _ (unsound-first _ (c .before .before .before .check-parts .ensures) (c .before .if1 .taken)) (c .unsound .ensures)
+
+mark-started-requires : tie.Need-mark-started-requires
+mark-started-requires c κs = let y = passed (c .before .before .before .before .before .before .before) in (started-low _ y, entries-low _ y)
+
+type-users-requires : tie.Need-type-users-requires
+type-users-requires c κs = let y = passed (from-marks (c .before .before .before)) .checked in (len-low _ _ y, type-low _ _ y)
+
+is-over-requires : tie.Need-is-over-requires
+is-over-requires c κs = tasks-low _ (passed (from-marks (c .before .before .before .before)))
+
+is-sound-requires : tie.Need-is-sound-requires
+is-sound-requires c κs = search needs
+
+unsound-requires-2 : tie.Need-unsound-requires-2
+unsound-requires-2 c κs = search needs
+
+returns-2 : tie.Need-returns-2
+returns-2 c = judged-unsound _ _ (sym (sound-is (c .before .before)) ∙ not-true _ (c .before .if2 .taken)) (c .unsound2 .ensures)
+
+report-verdict-requires : tie.Need-report-verdict-requires
+report-verdict-requires c κs = search needs
+
+returns-3 : tie.Need-returns-3
+returns-3 c =
+    let k = c .before .before in
+    judged-sound _ _ (word (begin (from-sound k))) (sym (sound-is k) ∙ not-false _ (c .before .if2 .left)) (k .before .before .before .before .before .before .before .before .before .before .before .mark-started .ensures)
+    (k .before .before .before .before .before .before .is-over .ensures) (k .before .before .before .before .before .before .before .type-users .ensures) (c .report-verdict .ensures)
+
+pub judge-spec : {M : Type 1} → statement M
+judge-spec =
+    tie.close
+    (tie.spec
+    check-parts-requires
+    unsound-requires
+    returns
+    mark-started-requires
+    type-users-requires
+    is-over-requires
+    is-sound-requires
+    unsound-requires-2
+    returns-2
+    report-verdict-requires
+    returns-3)
