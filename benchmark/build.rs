@@ -1,6 +1,7 @@
 //! Links the archive of the proved code.
 fn main() {
-    let folder = concat!(env!("CARGO_MANIFEST_DIR"), "/../target/staticlib");
+    let here = std::env::var("CARGO_MANIFEST_DIR").expect("cargo tells where the package is");
+    let folder = format!("{here}/../target/staticlib");
     println!("cargo:rustc-link-search=native={folder}");
     println!("cargo:rustc-link-lib=static=speed");
     println!("cargo:rerun-if-changed={folder}/libspeed.a");
