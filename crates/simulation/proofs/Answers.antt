@@ -1,16 +1,16 @@
 -- The answers of `simulate` and `bound`, branch by branch, and what the inner functions are handed. Assumes nothing.
 use mathlib.Core.Path.{_≡_, refl, sym, ap, _∙_, subst}
-use mathlib.Core.Bool.{true, false, _||_, not}
+use mathlib.Core.Bool.{true, false}
 use mathlib.Core.List.{List}
 use Prim.Native.Nat.{ℕ, _≤_, _<_, zero-le}
-use native.Mathlib.Nat.{le-trans, le-of-eq, lt-of-lt-of-le}
+use native.Mathlib.Nat.{le-trans, le-of-eq}
 use native.Mathlib.Omega.{arith}
-use borrow.Author.Tests.{eq-eqb, eqb-true, ne-eqb, lt-ltb, le-ltb, leb-true, leb-false, not-false}
-use lib.Dec.{eqb, leb, ltb}
+use borrow.Author.Tests.{eq-eqb, eqb-true, ne-eqb, lt-ltb, le-ltb, leb-true, not-false}
+use lib.Dec.{eqb, leb}
 use lib.ListN.{length}
 use Rattle.task_set.specs.Bounded.{first}
 use Rattle.task_set.proofs.Truth.{by-test, and-left, and-right}
-use Rattle.task_set.proofs.Search.{first-cong, first-none}
+use Rattle.task_set.proofs.Search.{first-none}
 use Rattle.plan.specs.declared.Plan.{Plan}
 use Rattle.plan.specs.declared.Constraint.{Constraint}
 use Rattle.plan.specs.declared.Verdict.{Verdict}
@@ -19,17 +19,17 @@ use Rattle.plan.specs.Refusals.{entryAt, constraintOf, refused, unlessAt, first
 use Rattle.plan.proofs.Accepted.{Accepted, accepted as taken}
 use Rattle.dispatch_theory.specs.Sums.{sum}
 use Rattle.runs.specs.Running.{typeOf, best, worst, bound}
-use Rattle.runs.proofs.Positions.{type-entry, task-times}
+use Rattle.runs.proofs.Positions.{type-entry, best-entry, worst-entry, task-times}
 use Rattle.runs.proofs.Theorems.{bound-sum}
 use Rattle.simulation.specs.declared.Simulation.{Simulation}
 use Rattle.simulation.specs.Simulated.{timeIn, outside, timesVerdict, simulationVerdict, ran, notRun, simulated, worstCase}
-use Rattle.simulation.specs.Steps.{Distinct, ChosenTimes, beyond, FirstOutside, Rest, Ready}
+use Rattle.simulation.specs.Steps.{Distinct, ChosenTimes, outsideAt, LowestOf, Rest, Ready}
+use Rattle.simulation.proofs.Lowest.{lowest-all}
 
 -- ---- the times of the chosen types
 
 pub distinct : (p : Plan) (c : Constraint) → Accepted p c → Distinct (c .order) (p .tasks)
-distinct p c a =
-    record { few = a .few-tasks; low = λ i l. lt-of-lt-of-le (a .task i l) (a .few-tasks); once = a .once }
+distinct p c a = record { few = a .few-tasks; low = a .task; once = a .once }
 
 chosen-is : (p : Plan) (c : Constraint) → Accepted p c → {times byTask : List ℕ} → ChosenTimes times (c .order) (c .chosen) (p .tasks) byTask
     → (t : ℕ) → t < p .tasks → timeIn byTask t ≡ timeOf times t (typeOf c t)
@@ -37,13 +37,6 @@ chosen-is p c a {times} {byTask} h t l =
     let r = a .somewhere t l in
     subst (λ (x : ℕ). timeIn byTask x ≡ timeOf times x (typeOf c x)) (r .2)
     (h .at-position (r .0) (r .1) ∙ ap (timeOf times (entryAt (c .order) (r .0))) (sym (type-entry p c a (r .0) (r .1))))
-
--- below or above is not between
-not-between : (a x b : ℕ) → ltb x a || ltb b x ≡ not (between a x b)
-not-between a x b =
-    by-test (leb a x)
-    (λ q. rw (q, le-ltb x a (leb-true a x q)) (by-test (leb x b) (λ s. rw s (le-ltb b x (leb-true x b s))) (λ s. rw s (lt-ltb b x (leb-false x b s)))))
-    (λ q. rw (q, lt-ltb x a (leb-false a x q)) refl)
 
 between-elim : {a x b : ℕ} → between a x b ≡ true → (a ≤ x) × (x ≤ b)
 between-elim {a} {x} {b} e = (leb-true a x (and-left (leb a x) (leb x b) e), leb-true x b (and-right (leb a x) (leb x b) e))
@@ -95,15 +88,13 @@ module _ (p : Plan) (c : Constraint) (e : verdict p c .number ≡ 0) where
     says-17 f = rw (e, ne-eqb (length times) (p .tasks) f) refl
 
     module _ (counted : length times ≡ p .tasks) {place : ℕ}
-        (o : FirstOutside (p .bcet) (p .wcet) (c .order) (c .chosen) times (p .tasks) place) where
-      outside-is : (t : ℕ) → t < p .tasks → beyond (o .bests) (o .worsts) times t ≡ outside p c times t
-      unfolding beyond outside best worst
-      outside-is t l =
-          rw (chosen-is p c a (o .best-times) t l, chosen-is p c a (o .worst-times) t l)
-          (not-between (best p c t) (timeIn times t) (worst p c t))
+        (o : LowestOf (p .tasks) (c .order) (outsideAt (p .bcet) (p .wcet) (c .order) (c .chosen) times) (p .tasks) place) where
+      outside-is : (i : ℕ) → i < p .tasks → outside p c times (entryAt (c .order) i) ≡ outsideAt (p .bcet) (p .wcet) (c .order) (c .chosen) times i
+      unfolding outside outsideAt
+      outside-is i l = rw (best-entry p c a i l, worst-entry p c a i l) refl
 
       place-is : place ≡ first (p .tasks) (outside p c times)
-      place-is = o .is-first ∙ first-cong (p .tasks) (beyond (o .bests) (o .worsts) times) (outside p c times) outside-is
+      place-is = lowest-all p c a (outside p c times) outside-is o
 
       pub says-18 : place < p .tasks → notRun (refused 18 place) ≡ simulated p c times
       unfolding simulated simulationVerdict firstRefusal timesVerdict unlessAt

@@ -40,7 +40,7 @@ chosen-more {times} {order} {chosen} {byTask} {n} {k} {v} o l h e =
     written = set byTask (entryAt order k) v
 
     here : timeIn written (entryAt order k) ≡ timeOf times (entryAt order k) (entryAt chosen k)
-    here = getD-set-same byTask (entryAt order k) v 0 (rw (h .whole) (o .low k l)) ∙ e
+    here = getD-set-same byTask (entryAt order k) v 0 (rw (h .whole) (lt-of-lt-of-le (o .low k l) (o .few))) ∙ e
 
     before : (i : ℕ) → i < k → timeIn written (entryAt order i) ≡ timeOf times (entryAt order i) (entryAt chosen i)
     before i m =

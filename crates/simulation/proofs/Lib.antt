@@ -2,6 +2,7 @@
 pub mod Units
 pub mod Waits
 pub mod ByTask
+pub mod Lowest
 pub mod Reached
 pub mod Handed
 pub mod Answers

@@ -1,18 +1,21 @@
 -- The run, come to a position: what its arrays hold, what the next position adds, and what they hold at the end. Assumes nothing.
 use mathlib.Core.Path.{_≡_, refl, sym, ap, ap₂, _∙_}
 use mathlib.Core.Bool.{true, cond}
+use mathlib.Core.Logic.{⊎-elim}
 use mathlib.Core.List.{List}
 use Prim.Native.Nat.{ℕ, suc, _+_, _*_, _≤_, _<_, max, zero-le}
-use native.Mathlib.Nat.{le-trans, le-of-eq, lt-of-lt-of-le, lt-trans}
+use native.Mathlib.Nat.{le-trans, le-of-eq, lt-of-lt-of-le, lt-trans, le-max-left, le-max-right}
 use native.Mathlib.Numerals.{add-one}
 use native.Mathlib.Omega.{arith}
 use borrow.Author.Tests.{ltb-true}
+use lib.Bits.{bitOr}
 use lib.Dec.{ltb}
 use lib.ListN.{length, getD, set, replicate, length-set, length-replicate, getD-replicate}
 use lib.Seq.{getD-set-same, getD-set-other}
 use Rattle.task_set.specs.Bounded.{tabulate}
-use Rattle.task_set.specs.Sets.{width, has}
-use Rattle.task_set.proofs.Truth.{by-test}
+use Rattle.task_set.specs.Sets.{width, has, without}
+use Rattle.task_set.proofs.Truth.{by-test, clash, and-left, or-cases}
+use Rattle.task_set.proofs.Members.{has-none, has-or, has-without}
 use Rattle.task_set.proofs.Tables.{tabulate-cong}
 use Rattle.plan.specs.declared.Plan.{Plan}
 use Rattle.plan.specs.declared.Constraint.{Constraint}
@@ -29,7 +32,7 @@ use Rattle.runs.proofs.Closed.{orderOf, durations, startsOf, greedy, timed-clos
 use Rattle.runs.proofs.Response.{finish-by, ended-start, ended-finish, response-finish}
 use Rattle.simulation.specs.Simulated.{ran}
 use Rattle.simulation.specs.Steps.{latestOf, unitIndex, freeFrom, FreeFirst}
-use Rattle.simulation.proofs.Units.{Booked, booked-none, booked-more, start-is}
+use Rattle.simulation.proofs.Units.{Booked, booked-none, booked-more, start-is, waited-then}
 use Rattle.simulation.proofs.ByTask.{tabled, tabled-none, tabled-more, tabled-at, tabled-all}
 
 -- the start and the finish of a task
@@ -39,10 +42,12 @@ startAt p c d t = startsOf p c d (position c t)
 abbrev finishAt : Plan → Constraint → (ℕ → ℕ) → ℕ → ℕ
 finishAt p c d t = startAt p c d t + d t
 
--- the loop has come to position k: the positions before it have started and finish, and hold their units
-pub record Reached (p : Plan) (c : Constraint) (d : ℕ → ℕ) (k last response : ℕ) (starts finishes free : List ℕ) : Type 0 where
+-- the loop has come to position k: the positions before it have started and finish, and hold their units;
+-- the tasks of `past` have finished by the last start
+pub record Reached (p : Plan) (c : Constraint) (d : ℕ → ℕ) (k last past response : ℕ) (starts finishes free : List ℕ) : Type 0 where
   pub within : k ≤ p .tasks
   pub last-is : last ≡ after (startsOf p c d) k
+  pub past-over : (j : ℕ) → j < p .tasks → has past (entryAt (c .order) j) ≡ true → ends (startsOf p c d) (durations c d) j ≤ after (startsOf p c d) k
   pub response-is : response ≡ greatest k (ends (startsOf p c d) (durations c d))
   pub starts-are : starts ≡ tabled c k (startAt p c d)
   pub finishes-are : finishes ≡ tabled c k (finishAt p c d)
@@ -61,12 +66,13 @@ module _ (p : Plan) (c : Constraint) (a : Accepted p c) (d : ℕ → ℕ) (posit
   unit-low : (ty u : ℕ) → ty < p .types → u < getD (p .units) ty 0 → unitIndex ty u < mostTypes * mostUnits
   unit-low ty u l m = omega (arith, a .few-types, a .few-units ty l)
 
-  pub reached-none : Reached p c d 0 0 0 (replicate mostTasks 0) (replicate mostTasks 0) (replicate (mostTypes * mostUnits) 0)
+  pub reached-none : Reached p c d 0 0 0 0 (replicate mostTasks 0) (replicate mostTasks 0) (replicate (mostTypes * mostUnits) 0)
   unfolding after greatest
   reached-none =
       record {
         within = zero-le;
         last-is = refl;
+        past-over = λ j l h. absurd (clash h (has-none (entryAt (c .order) j)));
         response-is = refl;
         starts-are = tabled-none c (startAt p c d);
         finishes-are = tabled-none c (finishAt p c d);
@@ -76,7 +82,7 @@ module _ (p : Plan) (c : Constraint) (a : Accepted p c) (d : ℕ → ℕ) (posit
 
   -- ---- the next position
 
-  module _ {k last response : ℕ} {starts finishes free : List ℕ} (r : Reached p c d k last response starts finishes free) (low : k < p .tasks)
+  module _ {k last past response : ℕ} {starts finishes free : List ℕ} (r : Reached p c d k last past response starts finishes free) (low : k < p .tasks)
       {index : ℕ} (f : FreeFirst free (entryAt (c .chosen) k) (getD (p .units) (entryAt (c .chosen) k) 0) index) where
     abbrev t : ℕ
     t = entryAt (c .order) k
@@ -90,34 +96,50 @@ module _ (p : Plan) (c : Constraint) (a : Accepted p c) (d : ℕ → ℕ) (posit
         ap (λ (xs : List ℕ). getD xs (entryAt (c .order) j) 0) (r .finishes-are) ∙ tabled-at p c a (finishAt p c d) k j l (r .within)
         ∙ ap (λ (i : ℕ). S i + D j) (position-entry p c a j (lt-trans l low))
 
-    -- the latest finish of the predecessors is that of the positions waited for
-    module _ {s w : ℕ} (ep : s ≡ predecessorsOf (p .predecessors) t) (e : w ≡ latestOf finishes s) where
-      abbrev of-set : ℕ → ℕ
-      of-set u = cond (has s u) (getD finishes u 0) 0
+    -- its predecessors, and those that are looked at
+    abbrev needed : ℕ
+    needed = predecessorsOf (p .predecessors) t
 
-      waited : (j : ℕ) → j < k → has (predecessorsOf (p .predecessors) t) (entryAt (c .order) j) ≡ true → ends S D j ≤ w
-      unfolding latestOf
-      waited j l h =
-          let m : entryAt (c .order) j < width = lt-of-lt-of-le (a .task j (lt-trans l low)) (a .few-tasks) in
-          let q : of-set (entryAt (c .order) j) ≡ ends S D j = rw (ep, h) (finish-known j l) in
-          omega (arith, q, greatest-le width of-set (entryAt (c .order) j) m)
+    abbrev of-set : ℕ → ℕ
+    of-set u = cond (has (without needed past) u) (getD finishes u 0) 0
 
-      only : (x : ℕ) → ((j : ℕ) → j < k → has (predecessorsOf (p .predecessors) t) (entryAt (c .order) j) ≡ true → ends S D j ≤ x) → w ≤ x
-      unfolding latestOf
-      only x h = le-trans (le-of-eq e) (greatest-lub width of-set x (λ u l. by-test (has s u) (member u l) (λ q. rw q zero-le)))
-        where
-          member : (u : ℕ) → u < width → has s u ≡ true → of-set u ≤ x
-          member u l q =
-              let i = a .earlier k u low l (ap (λ (y : ℕ). has y u) (sym ep) ∙ q) in
-              rw q (le-trans (le-of-eq (ap (λ (y : ℕ). getD finishes y 0) (sym (i .2)) ∙ finish-known (i .0) (i .1)))
-              (h (i .0) (i .1) (ap (has (predecessorsOf (p .predecessors) t)) (i .2) ∙ ap (λ (y : ℕ). has y u) (sym ep) ∙ q)))
+    -- a predecessor stands before, and has finished by the start
+    over : (j : ℕ) → j < p .tasks → has needed (entryAt (c .order) j) ≡ true → ends S D j ≤ S k
+    over j m h =
+        let i = a .earlier k (entryAt (c .order) j) low (lt-of-lt-of-le (a .task j m) (a .few-tasks)) h in
+        waited-then (orderOf p c) (p .tasks) D S (greedy p c a d) k low j (omega (arith, i .1, a .once (i .0) j (lt-trans (i .1) low) m (i .2))) h
 
-      -- the latest of the three is the start
-      pub next-start : {behind start : ℕ} → behind ≡ max last w → start ≡ max behind (getD free index 0) → start ≡ S k
-      next-start eb es =
-          rw (es, eb, r .last-is, f .index-is)
-          (start-is (orderOf p c) (p .types) (p .tasks) D S (greedy p c a d) k low (a .type k low) (freeFrom free) (r .booked)
-          (f .unit) (f .low) (f .least) w waited only)
+    -- a predecessor that is not looked at is past
+    waited : (j : ℕ) → j < k → has needed (entryAt (c .order) j) ≡ true → ends S D j ≤ max (after S k) (latestOf finishes (without needed past))
+    unfolding latestOf
+    waited j l h =
+        let m : j < p .tasks = lt-trans l low in
+        by-test (has past u) (λ g. le-trans (r .past-over j m g) (le-max-left _ _))
+        (λ g. let q : of-set u ≡ ends S D j = rw (has-without needed past u, h, g) (finish-known j l) in
+        le-trans (omega (arith, q, greatest-le width of-set u (lt-of-lt-of-le (a .task j m) (a .few-tasks)))) (le-max-right _ _))
+      where
+        u : ℕ
+        u = entryAt (c .order) j
+
+    -- what is looked at has finished by the start
+    looked-over : latestOf finishes (without needed past) ≤ S k
+    unfolding latestOf
+    looked-over = greatest-lub width of-set (S k) (λ u l. by-test (has (without needed past) u) (member u l) (λ q. rw q zero-le))
+      where
+        member : (u : ℕ) → u < width → has (without needed past) u ≡ true → of-set u ≤ S k
+        member u l q =
+            let h = and-left _ _ (sym (has-without needed past u) ∙ q) in
+            let i = a .earlier k u low l h in
+            rw q (le-trans (le-of-eq (ap (λ (y : ℕ). getD finishes y 0) (sym (i .2)) ∙ finish-known (i .0) (i .1)))
+            (over (i .0) (lt-trans (i .1) low) (ap (has needed) (i .2) ∙ h)))
+
+    -- the latest of the three is the start
+    pub next-start : {s looked w behind start : ℕ} → s ≡ needed → looked ≡ without s past → w ≡ latestOf finishes looked → behind ≡ max last w
+        → start ≡ max behind (getD free index 0) → start ≡ S k
+    next-start ep el ew eb es =
+        rw (es, eb, ew, el, ep, r .last-is, f .index-is)
+        (start-is (orderOf p c) (p .types) (p .tasks) D S (greedy p c a d) k low (a .type k low) (freeFrom free) (r .booked)
+        (f .unit) (f .low) (f .least) _ waited looked-over)
 
     -- the unit has its place
     index-low : index < length free
@@ -131,14 +153,15 @@ module _ (p : Plan) (c : Constraint) (a : Accepted p c) (d : ℕ → ℕ) (posit
         alike : unitIndex x v ≡ index → x ≡ ty
         alike q = omega (arith, q, f .index-is, f .low, a .few-units x l, a .few-units ty (a .type k low))
 
-    pub reached-more : {start time later : ℕ} → start ≡ S k → time ≡ d t → later ≡ max response (start + time)
-        → Reached p c d (k + 1) start later (set starts t start) (set finishes t (start + time)) (set free index (start + time))
+    pub reached-more : {s start time later : ℕ} → s ≡ needed → start ≡ S k → time ≡ d t → later ≡ max response (start + time)
+        → Reached p c d (k + 1) start (bitOr past s) later (set starts t start) (set finishes t (start + time)) (set free index (start + time))
     unfolding after greatest
-    reached-more {start} {time} {later} es et el =
+    reached-more {s} {start} {time} {later} ep es et el =
         rw (add-one k)
         (record {
           within = low;
           last-is = es;
+          past-over = past-here;
           response-is = el ∙ ap₂ max (r .response-is) finish-is;
           starts-are = ap₂ (λ (xs : List ℕ) (y : ℕ). set xs t y) (r .starts-are) (es ∙ sym (ap S here)) ∙ tabled-more p c a (startAt p c d) k low;
           finishes-are = ap₂ (λ (xs : List ℕ) (y : ℕ). set xs t y) (r .finishes-are) (finish-is ∙ ap (λ (i : ℕ). S i + d t) (sym here))
@@ -152,6 +175,11 @@ module _ (p : Plan) (c : Constraint) (a : Accepted p c) (d : ℕ → ℕ) (posit
 
         finish-is : start + time ≡ ends S D k
         finish-is = ap₂ _+_ es et
+
+        past-here : (j : ℕ) → j < p .tasks → has (bitOr past s) (entryAt (c .order) j) ≡ true → ends S D j ≤ S k
+        past-here j m h =
+            ⊎-elim (λ g. le-trans (r .past-over j m g) (greedy p c a d .order k low)) (λ g. over j m (rw ep at g))
+            (or-cases _ _ (sym (has-or (entryAt (c .order) j) past s) ∙ h))
 
         booked-here : Booked (orderOf p c) (p .types) D S (suc k) (after S (suc k)) (freeFrom (set free index (start + time)))
         booked-here =
@@ -193,7 +221,7 @@ module _ (p : Plan) (c : Constraint) (a : Accepted p c) (d : ℕ → ℕ) (posit
       by-test (ltb t (p .tasks)) (λ e. rw (e, ended-finish p c a d positive t (ltb-true t (p .tasks) e)) refl)
       (λ e. rw (timed-closed p c a d positive (sum (p .tasks) d), e) refl)
 
-  pub reached-end : {k last response : ℕ} {starts finishes free : List ℕ} → Reached p c d k last response starts finishes free → p .tasks ≤ k
+  pub reached-end : {k last past response : ℕ} {starts finishes free : List ℕ} → Reached p c d k last past response starts finishes free → p .tasks ≤ k
       → record { number = 0; place = 0; response = response; starts = starts; finishes = finishes } ≡ ran p c d
   unfolding ran
   reached-end {k} r l =

@@ -33,6 +33,15 @@ unfolding count
 booked-none o types d S F z =
     record { as-many = λ ty s l m. sym (count-none (o .units ty) (held F ty s) (λ u h. rw (z ty u l h) (ap not (le-leb 0 s zero-le)))) }
 
+-- at its start the gate of a position is open
+module _ (o : Order) (n : ℕ) (d S : ℕ → ℕ) (g : Greedy (ruleGate o) n d S) (k : ℕ) (low : k < n) where
+  open-now : Free o (λ j. leb (ends S d j) (S k)) k
+  unfolding ruleGate
+  open-now = free-elim o (λ j. leb (ends S d j) (S k)) k (g .open-at k low)
+
+  pub waited-then : (j : ℕ) → j < k → o .waits k j ≡ true → ends S d j ≤ S k
+  waited-then j l q = leb-true (ends S d j) (S k) (open-now .waited j l q)
+
 -- position k, and the unit u of its type that is free first
 module _ (o : Order) (types n : ℕ) (d S : ℕ → ℕ) (g : Greedy (ruleGate o) n d S) (k : ℕ) (low : k < n) (known : o .type k < types)
     (F : ℕ → ℕ → ℕ) (b : Booked o types d S k (after S k) F) (u : ℕ) (there : u < o .units (o .type k))
@@ -54,30 +63,24 @@ module _ (o : Order) (types n : ℕ) (d S : ℕ → ℕ) (g : Greedy (ruleGate o
         count-every (o .units t) (held F t s) (λ v m. ap not (lt-leb (F t v) s (omega (arith, least v m, leb-false (F t u) s e)))),
       )))
 
-  -- at its start the gate is open
-  open-now : Free o (λ j. leb (ends S d j) (S k)) k
-  unfolding ruleGate
-  open-now = free-elim o (λ j. leb (ends S d j) (S k)) k (g .open-at k low)
-
   free-then : F t u ≤ S k
-  free-then = free-by (S k) (g .order k low) (open-now .room)
+  free-then = free-by (S k) (g .order k low) (open-now o n d S g k low .room)
 
-  pub start-is : (w : ℕ) → ((j : ℕ) → j < k → o .waits k j ≡ true → ends S d j ≤ w)
-      → ((s : ℕ) → ((j : ℕ) → j < k → o .waits k j ≡ true → ends S d j ≤ s) → w ≤ s)
+  pub start-is : (w : ℕ) → ((j : ℕ) → j < k → o .waits k j ≡ true → ends S d j ≤ max (after S k) w) → w ≤ S k
       → max (max (after S k) w) (F t u) ≡ S k
   unfolding ruleGate
-  start-is w waited only =
-      le-antisymm (max-le (max-le (g .order k low) (only (S k) (λ j l q. leb-true (ends S d j) (S k) (open-now .waited j l q)))) free-then)
+  start-is w waited over =
+      le-antisymm (max-le (max-le (g .order k low) over) free-then)
       (by-test (ltb x (S k)) (λ e. absurd (clash opens (g .closed k x low behind (ltb-true x (S k) e)))) (ltb-false x (S k)))
     where
       x : ℕ
       x = max (max (after S k) w) (F t u)
 
-      behind : after S k ≤ x
-      behind = le-trans (le-max-left (after S k) w) (le-max-left (max (after S k) w) (F t u))
+      past : max (after S k) w ≤ x
+      past = le-max-left (max (after S k) w) (F t u)
 
-      past : w ≤ x
-      past = le-trans (le-max-right (after S k) w) (le-max-left (max (after S k) w) (F t u))
+      behind : after S k ≤ x
+      behind = le-trans (le-max-left (after S k) w) past
 
       opens : ruleGate o (ends S d) k x ≡ true
       opens =

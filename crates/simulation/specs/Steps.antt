@@ -1,14 +1,12 @@
 -- What the inner functions of the simulation compute. No promise of a public function cites it. Assumes nothing.
 use mathlib.Core.Path.{_≡_}
-use mathlib.Core.Bool.{Bool, cond, _||_}
+use mathlib.Core.Bool.{Bool, true, false, cond, not}
 use mathlib.Core.List.{List}
 use Prim.Native.Nat.{ℕ, _+_, _*_, _≤_, _<_}
-use lib.Dec.{ltb}
 use lib.ListN.{length, getD}
-use Rattle.task_set.specs.Bounded.{first}
 use Rattle.task_set.specs.Sets.{width, has}
 use Rattle.plan.specs.declared.Plan.{Plan}
-use Rattle.plan.specs.Rules.{mostUnits, mostTasks, longestTime, timeOf}
+use Rattle.plan.specs.Rules.{mostUnits, mostTasks, longestTime, timeOf, between}
 use Rattle.plan.specs.Refusals.{entryAt, planOf, constraintOf, verdict}
 use Rattle.dispatch_theory.specs.Sums.{greatest}
 use Rattle.simulation.specs.declared.Simulation.{Simulation}
@@ -16,10 +14,10 @@ use Rattle.simulation.specs.Simulated.{timeIn, ran}
 
 -- ---- times by task number
 
--- the first n tasks of an order, no two the same
+-- the first n entries of an order are tasks below n, no two the same
 pub record Distinct (order : List ℕ) (n : ℕ) : Type 0 where
   pub few : n ≤ mostTasks
-  pub low : (i : ℕ) → i < n → entryAt order i < mostTasks
+  pub low : (i : ℕ) → i < n → entryAt order i < n
   pub once : (i j : ℕ) → i < n → j < n → entryAt order i ≡ entryAt order j → i ≡ j
 
 -- the task at each of the first n positions has the time of its chosen type
@@ -27,17 +25,18 @@ pub record ChosenTimes (times order chosen : List ℕ) (n : ℕ) (byTask : List 
   pub whole : length byTask ≡ mostTasks
   pub at-position : (i : ℕ) → i < n → timeIn byTask (entryAt order i) ≡ timeOf times (entryAt order i) (entryAt chosen i)
 
--- the time of task t is below its best or above its worst
-unfoldable pub beyond : List ℕ → List ℕ → List ℕ → ℕ → Bool
-beyond best worst times t = ltb (timeIn times t) (timeIn best t) || ltb (timeIn worst t) (timeIn times t)
+-- the time of the task at position i is not between the best and the worst of its chosen type
+unfoldable pub outsideAt : List ℕ → List ℕ → List ℕ → List ℕ → List ℕ → ℕ → Bool
+outsideAt bcet wcet order chosen times i =
+    let t = entryAt order i in
+    let ty = entryAt chosen i in
+    not (between (timeOf bcet t ty) (timeIn times t) (timeOf wcet t ty))
 
--- r is the first of n tasks whose time is beyond its best or its worst on its chosen type
-pub record FirstOutside (bcet wcet order chosen times : List ℕ) (n r : ℕ) : Type 0 where
-  pub bests : List ℕ
-  pub worsts : List ℕ
-  pub best-times : ChosenTimes bcet order chosen n bests
-  pub worst-times : ChosenTimes wcet order chosen n worsts
-  pub is-first : r ≡ first n (beyond bests worsts times)
+-- r is the lowest of n tasks that stands at one of the first k positions and fails, and n where there is none
+pub record LowestOf (n : ℕ) (order : List ℕ) (fails : ℕ → Bool) (k r : ℕ) : Type 0 where
+  pub within : r ≤ n
+  pub passed : (i : ℕ) → i < k → entryAt order i < r → fails i ≡ false
+  pub found : r < n → (i : ℕ) × (i < k) × (entryAt order i ≡ r) × (fails i ≡ true)
 
 -- ---- the run
 

@@ -51,6 +51,7 @@ fn free_first(free: &[u32; ALL_UNITS], ty: usize, units: u32) -> usize
 
 // A position starts no earlier than the position before it, the finishes of its predecessors, and the first
 // instant at which a unit of its type is free; `free` keeps the instant from which each unit is free.
+// The tasks of `past` have finished by `last`: no finish is looked at twice.
 pub fn run<'a>(
     units: &'a [u32; MOST_TYPES],
     predecessors: &'a [u64; MOST_TASKS],
@@ -66,14 +67,17 @@ pub fn run<'a>(
     let mut finishes = [0; MOST_TASKS];
     let mut free = [0; ALL_UNITS];
     let mut last = 0;
+    let mut past: u64 = 0;
     let mut response = 0;
     let mut k = 0;
     while k < tasks {
         let t = order[k];
         let ty = chosen[k];
         let unit = free_first(&free, ty, units[ty]);
-        let waited = latest_finish(&finishes, plan::predecessors_of(predecessors, t));
+        let needed = plan::predecessors_of(predecessors, t);
+        let waited = latest_finish(&finishes, task_set::difference(needed, past));
         last = later(later(last, waited), free[unit]);
+        past = past | needed;
         let finish = last + times[t];
         starts[t] = last;
         finishes[t] = finish;

@@ -1,10 +1,7 @@
 // Times by task number: those of the chosen types, and 18.
 ghost use mathlib.Core.Path.{_≡_};
-ghost use Prim.Native.Nat.{_≤_};
 ghost use lib.ListN.{length};
-ghost use Rattle.task_set.specs.Bounded.{first};
-ghost use Rattle.plan.specs.Rules.{mostTasks};
-ghost use Rattle.simulation.specs.Steps.{ChosenTimes, Distinct, FirstOutside, beyond};
+ghost use Rattle.simulation.specs.Steps.{ChosenTimes, Distinct, LowestOf, outsideAt};
 use plan::MOST_PAIRS;
 use plan::MOST_TASKS;
 
@@ -29,28 +26,8 @@ pub fn chosen_times<'a>(
     by_task
 }
 
-// The lowest task whose time is below its best or above its worst, and the number of tasks where there is none.
-fn first_beyond<'a>(
-    best: &'a [u32; MOST_TASKS],
-    worst: &'a [u32; MOST_TASKS],
-    times: &'a [u32],
-    tasks: usize,
-) -> usize
-    requires { ⌜ (tasks ≤ mostTasks) × (length (now times) ≡ tasks) ⌝ }
-    ensures { λ r. ⌜ r ≡ first tasks (beyond (now (best .entry)) (now (worst .entry)) (now (times .entry))) ⌝ }
-{
-    let mut t = 0;
-    while t < tasks {
-        let x = times[t];
-        if (x < best[t]) | (worst[t] < x) {
-            return t;
-        }
-        t += 1;
-    }
-    tasks
-}
-
-// 18: the lowest task whose time is not between the best and the worst of its chosen type.
+// 18: the lowest task whose time is not between the best and the worst of its chosen type, and the number of tasks
+// where there is none.
 pub fn first_outside<'a>(
     bcet: &'a [u32; MOST_PAIRS],
     wcet: &'a [u32; MOST_PAIRS],
@@ -60,9 +37,20 @@ pub fn first_outside<'a>(
     tasks: usize,
 ) -> usize
     requires { ⌜ Distinct (now order) tasks × (length (now times) ≡ tasks) ⌝ }
-    ensures { λ r. ⌜ FirstOutside (now (bcet .entry)) (now (wcet .entry)) (now (order .entry)) (now (chosen .entry)) (now (times .entry)) tasks r ⌝ }
+    ensures { λ r. ⌜ LowestOf tasks (now (order .entry))
+        (outsideAt (now (bcet .entry)) (now (wcet .entry)) (now (order .entry)) (now (chosen .entry)) (now (times .entry))) tasks r ⌝ }
 {
-    let best = chosen_times(bcet, order, chosen, tasks);
-    let worst = chosen_times(wcet, order, chosen, tasks);
-    first_beyond(&best, &worst, times, tasks)
+    let mut lowest = tasks;
+    let mut k = 0;
+    while k < tasks {
+        let t = order[k];
+        let ty = chosen[k];
+        let x = times[t];
+        let within = (plan::time_of(bcet, t, ty) <= x) & (x <= plan::time_of(wcet, t, ty));
+        if !within & (t < lowest) {
+            lowest = t;
+        }
+        k += 1;
+    }
+    lowest
 }

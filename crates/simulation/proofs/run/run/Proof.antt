@@ -14,17 +14,20 @@ use Rattle.simulation.proofs.run.run.Statement.{statement}
 use Rattle.simulation.proofs.run.run.Tie as tie
 
 abbrev Inv-loop : tie.InvT-loop
-Inv-loop units predecessors tasks order chosen times starts₀ finishes₀ free₀ last₀ response₀ k₀ starts finishes free last response k =
+Inv-loop units predecessors tasks order chosen times starts₀ finishes₀ free₀ last₀ past₀ response₀ k₀ starts finishes free last past response k =
     (w : Rest) → Ready w units predecessors tasks order chosen times
-    → Reached (planWith w units predecessors tasks) (constraintOf tasks order chosen) (w .time) k last response starts finishes free
+    → Reached (planWith w units predecessors tasks) (constraintOf tasks order chosen) (w .time) k last past response starts finishes free
 
 abbrev μ-loop : tie.MeasureT-loop
-μ-loop units predecessors tasks order chosen times starts₀ finishes₀ free₀ last₀ response₀ k₀ starts finishes free last response k =
+μ-loop units predecessors tasks order chosen times starts₀ finishes₀ free₀ last₀ past₀ response₀ k₀ starts finishes free last past response k =
     tasks - k
 
--- a turn of the loop, from a place in it, and the function's entry
+-- the predecessors known, and a turn of the loop, from a place in it, and the function's entry
+abbrev known : tie.After-later2 Inv-loop μ-loop → tie.After-predecessors-of Inv-loop μ-loop
+known c = c .before .before .before .before .before
+
 abbrev turn : tie.After-later2 Inv-loop μ-loop → tie.In-loop Inv-loop μ-loop
-turn c = c .before .before .before .before .before .before .before .before .before .before
+turn c = known c .before .before .before .before .before .before
 
 abbrev start : tie.In-loop Inv-loop μ-loop → tie.Start Inv-loop μ-loop
 start c = c .before .before .before
@@ -47,9 +50,9 @@ start-here : (c : tie.After-later2 Inv-loop μ-loop) (w : Rest)
     ≡ startsOf (planWith w (g .units .now) (g .predecessors .now) (g .tasks)) (constraintOf (g .tasks) (g .order .now) (g .chosen .now)) (w .time)
     (turn c .before .loop .k)
 start-here c w h =
-    let u = c .before .before .before .before .before in
-    next-start _ _ (handed h) (w .time) (h .some) (turn c .before .loop .inv w h) (turn c .loop-test .taken) (u .free-first .ensures)
-    (c .before .before .before .predecessors-of .ensures) (c .before .before .latest-finish .ensures) (c .before .later .ensures) (c .later2 .ensures)
+    next-start _ _ (handed h) (w .time) (h .some) (turn c .before .loop .inv w h) (turn c .loop-test .taken) (known c .before .free-first .ensures)
+    (known c .predecessors-of .ensures) (c .before .before .before .difference .ensures) (c .before .before .latest-finish .ensures)
+    (c .before .later .ensures) (c .later2 .ensures)
 
 loop-holds : tie.Need-loop-holds Inv-loop μ-loop
 loop-holds c = λ w h. reached-none _ _ (handed h) (w .time) (h .some)
@@ -78,6 +81,9 @@ free-first-requires c κs = let p = here (c .before .before .before .before) in 
 predecessors-of-requires : tie.Need-predecessors-of-requires Inv-loop μ-loop
 predecessors-of-requires c κs = search needs
 
+difference-requires : tie.Need-difference-requires Inv-loop μ-loop
+difference-requires c κs = search needs
+
 latest-finish-requires : tie.Need-latest-finish-requires Inv-loop μ-loop
 latest-finish-requires c κs = search needs
 
@@ -85,10 +91,10 @@ later-requires : tie.Need-later-requires Inv-loop μ-loop
 later-requires c κs = search needs
 
 mul-later : tie.Need-mul-later Inv-loop μ-loop
-mul-later c = omega (arith, in-array (c .before .before .before .before))
+mul-later c = omega (arith, in-array (c .before .before .before .before .before))
 
 array-read-later : tie.Need-array-read-later Inv-loop μ-loop
-array-read-later c = in-array (c .before .before .before .before)
+array-read-later c = in-array (c .before .before .before .before .before)
 
 later-requires-2 : tie.Need-later-requires-2 Inv-loop μ-loop
 later-requires-2 c κs = search needs
@@ -123,10 +129,10 @@ array-write-finishes : tie.Need-array-write-finishes Inv-loop μ-loop
 array-write-finishes c = here (turn (c .before)) .low
 
 mul-free : tie.Need-mul-free Inv-loop μ-loop
-mul-free c = omega (arith, in-array (c .before .before .before .before .before .before))
+mul-free c = omega (arith, in-array (known (c .before) .before))
 
 array-write-free : tie.Need-array-write-free Inv-loop μ-loop
-array-write-free c = in-array (c .before .before .before .before .before .before)
+array-write-free c = in-array (known (c .before) .before)
 
 later-requires-3 : tie.Need-later-requires-3 Inv-loop μ-loop
 later-requires-3 c κs = search needs
@@ -140,9 +146,9 @@ loop-less c = search needs
 loop-again : tie.Need-loop-again Inv-loop μ-loop
 loop-again c = λ w h.
     let i = turn (c .before .before) in
-    let u = c .before .before .before .before .before .before .before in
-    reached-more _ _ (handed h) (w .time) (h .some) (i .before .loop .inv w h) (i .loop-test .taken) (u .free-first .ensures)
-    (start-here (c .before .before) w h) (h .times-are _ (here i .task)) (c .later3 .ensures)
+    let s = known (c .before .before) in
+    reached-more _ _ (handed h) (w .time) (h .some) (i .before .loop .inv w h) (i .loop-test .taken) (s .before .free-first .ensures)
+    (s .predecessors-of .ensures) (start-here (c .before .before) w h) (h .times-are _ (here i .task)) (c .later3 .ensures)
 
 returns : tie.Need-returns Inv-loop μ-loop
 returns c = λ w h. reached-end _ _ (handed h) (w .time) (h .some) (c .before .loop .inv w h) (c .loop-test .left)
@@ -162,6 +168,7 @@ run-spec =
     element-copy-out-free-first
     free-first-requires
     predecessors-of-requires
+    difference-requires
     latest-finish-requires
     later-requires
     mul-later

@@ -1,5 +1,6 @@
 -- `simulation::times::chosen_times` meets its contract: the positions passed have their times. Assumes nothing.
 use Prim.Native.Nat.{_-_, _≤_}
+use native.Mathlib.Nat.{lt-of-lt-of-le}
 use native.Mathlib.Omega.{arith}
 use borrow.Author.Needs.{needs}
 use Rattle.simulation.specs.Steps.{ChosenTimes}
@@ -32,10 +33,10 @@ time-of-requires : tie.Need-time-of-requires Inv-loop μ-loop
 time-of-requires c κs = search needs
 
 mul-by-task : tie.Need-mul-by-task Inv-loop μ-loop
-mul-by-task c = omega (arith, c .before .before .before .before .before .pre .low _ (c .before .before .before .loop-test .taken))
+mul-by-task c = let o = c .before .before .before .before .before .pre in omega (arith, o .few, o .low _ (c .before .before .before .loop-test .taken))
 
 array-write-by-task : tie.Need-array-write-by-task Inv-loop μ-loop
-array-write-by-task c = c .before .before .before .before .before .pre .low _ (c .before .before .before .loop-test .taken)
+array-write-by-task c = let o = c .before .before .before .before .before .pre in lt-of-lt-of-le (o .low _ (c .before .before .before .loop-test .taken)) (o .few)
 
 add-k : tie.Need-add-k Inv-loop μ-loop
 add-k c = search needs
