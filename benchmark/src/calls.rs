@@ -1,5 +1,6 @@
 //! The proved code behind safe functions.
 use rival::plan::{Constraint, Plan, PAIRS, TASKS, TYPES};
+use rival::run::Times;
 
 #[link(name = "speed", kind = "static")]
 extern "C" {
@@ -11,7 +12,7 @@ extern "C" {
     fn speed_simulate(
         types: usize, units: *const u32, tasks: usize, bcet: *const u32, wcet: *const u32,
         predecessors: *const u64, len: usize, order: *const usize, chosen: *const usize,
-        times: *const u32, times_len: usize,
+        times: *const u32, times_len: usize, starts: *mut u32, finishes: *mut u32,
     ) -> u32;
     fn speed_replay(
         types: usize, units: *const u32, tasks: usize, bcet: *const u32, wcet: *const u32,
@@ -85,15 +86,17 @@ pub fn read(text: &[u8], task: usize, kind: usize) -> u32 {
     unsafe { speed_read(text.as_ptr(), text.len(), task, kind) }
 }
 
-/// The response, or 0 if refused.
-pub fn simulate(i: &Input, times: &[u32]) -> u32 {
-    unsafe {
+/// All starts, finishes and the response; zeros if refused.
+pub fn simulate(i: &Input, times: &[u32]) -> Times {
+    let mut run = Times::zero();
+    run.response = unsafe {
         speed_simulate(
             i.types, i.units.as_ptr(), i.tasks, i.best.as_ptr(), i.worst.as_ptr(),
             i.predecessors.as_ptr(), i.length, i.order.as_ptr(), i.chosen.as_ptr(),
-            times.as_ptr(), times.len(),
+            times.as_ptr(), times.len(), run.starts.as_mut_ptr(), run.finishes.as_mut_ptr(),
         )
-    }
+    };
+    run
 }
 
 /// The instant of the state after start and one tick for each report.

@@ -3,8 +3,8 @@
 //! Before a measurement both must give the same answers on its input. No call
 //! can be left out: inputs and answers go through `black_box`, nothing is
 //! optimised across the archive's edge, and the rival's answers are worked out
-//! whole. The archive answers a single number each time; what it does not work
-//! out because of that cannot be seen from here.
+//! whole. Of a text that is read the archive gives back one best time; what it
+//! does not work out because of that cannot be seen from here.
 mod calls;
 mod measure;
 mod plans;
@@ -57,7 +57,7 @@ fn simulate(table: &mut Table, name: &str, shape: &Shape) {
     let input = Input::new(&plan, &constraint);
     let times = worst_times(&plan, &constraint);
     let run = fast::simulate(&plan, &constraint, &times);
-    assert_eq!(run.map(|run| run.response), Ok(calls::simulate(&input, &times)));
+    assert_eq!(run, Ok(calls::simulate(&input, &times)));
     let ours = || calls::simulate(black_box(&input), black_box(&times));
     let rivals = || {
         let (plan, constraint) = (black_box(&plan), black_box(&constraint));
@@ -98,8 +98,8 @@ fn long_times(table: &mut Table, name: &str, shape: &Shape) {
     let input = Input::new(&plan, &constraint);
     let run = |times: &[u32; TASKS]| calls::simulate(black_box(&input), black_box(times));
     let (short, long) = ([1; TASKS], [65_535; TASKS]);
-    assert!(run(&short) > 0);
-    assert_eq!(run(&short) * 65_535, run(&long));
+    assert!(run(&short).response > 0);
+    assert_eq!(run(&short).response * 65_535, run(&long).response);
     table.line(name, measure::by_turns(|| run(&long), || run(&short)), 1.2);
 }
 

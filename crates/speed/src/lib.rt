@@ -3,7 +3,7 @@ ghost use mathlib.Core.Path.{_≡_};
 ghost use Rattle.plan.specs.Refusals.{constraintOf, planOf, verdict};
 ghost use Rattle.plan.specs.Rules.{timeOf};
 ghost use Rattle.plan_text.specs.Text.{readText};
-ghost use Rattle.simulation.specs.Simulated.{simulated};
+ghost use Rattle.speed.specs.Calls.{Simulates};
 ghost use Rattle.live.specs.Replays.{Replays};
 ghost use Rattle.live.specs.declared.list.Replayed.{Replayed};
 use plan::Constraint;
@@ -53,7 +53,7 @@ pub extern "C" fn speed_check<'a>(
     v.number
 }
 
-// The response of a simulation; 0 where it is refused.
+// The response of a simulation, and its starts and finishes into lent arrays; zeros where it is refused.
 #[no_mangle]
 pub extern "C" fn speed_simulate<'a>(
     types: usize,
@@ -66,10 +66,13 @@ pub extern "C" fn speed_simulate<'a>(
     order: &'a [usize; MOST_TASKS],
     chosen: &'a [usize; MOST_TASKS],
     times: &'a [u32],
+    starts: &'a mut [u32; MOST_TASKS],
+    finishes: &'a mut [u32; MOST_TASKS],
 ) -> u32
-    ensures { λ r. ⌜ r ≡ simulated
+    ensures { λ r. ⌜ Simulates
         (planOf types (now (units .entry)) tasks (now (bcet .entry)) (now (wcet .entry)) (now (predecessors .entry)))
-        (constraintOf len (now (order .entry)) (now (chosen .entry))) (now (times .entry)) .response ⌝ }
+        (constraintOf len (now (order .entry)) (now (chosen .entry))) (now (times .entry))
+        r (now (starts .exit)) (now (finishes .exit)) ⌝ }
 {
     let p = Plan {
         types,
@@ -85,6 +88,10 @@ pub extern "C" fn speed_simulate<'a>(
         chosen: *chosen,
     };
     let s = simulation::simulate(p, c, times);
+    let begun = s.starts;
+    let ended = s.finishes;
+    *starts = begun;
+    *finishes = ended;
     s.response
 }
 

@@ -9,7 +9,13 @@ simulate-requires : tie.Need-simulate-requires
 simulate-requires c κs = search needs
 
 returns : tie.Need-returns
-returns c = ap (λ (s : Simulation). s .response) (c .simulate .ensures)
+returns c =
+    let e = c .before .before .simulate .ensures in
+    record {
+      response-is = ap (λ (s : Simulation). s .response) e;
+      starts-are = ap (λ (s : Simulation). s .starts) e;
+      finishes-are = ap (λ (s : Simulation). s .finishes) e;
+    }
 
 pub speed-simulate-spec : {M : Type 1} → statement M
 speed-simulate-spec = tie.close (tie.spec simulate-requires returns)

@@ -1,0 +1,2 @@
+-- The definitions that the contracts of `speed` cite.
+pub mod Calls
