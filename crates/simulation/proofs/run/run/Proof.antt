@@ -22,7 +22,7 @@ abbrev μ-loop : tie.MeasureT-loop
 μ-loop units predecessors tasks order chosen times starts₀ finishes₀ free₀ last₀ past₀ response₀ k₀ starts finishes free last past response k =
     tasks - k
 
--- the predecessors known, and a turn of the loop, from a place in it, and the function's entry
+-- where the predecessors are known, the turn of the loop, and the function's entry
 abbrev known : tie.After-later2 Inv-loop μ-loop → tie.After-predecessors-of Inv-loop μ-loop
 known c = c .before .before .before .before .before
 
