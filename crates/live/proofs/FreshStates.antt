@@ -53,7 +53,9 @@ module _ (p : Plan) (c : Constraint) where
   fresh-walkable ok e = record { tidy = fresh-tidy ok; users-are = e; running-are = none }
     where
       none : 0 ≡ runningOf fresh
-      none = set-ext width 0 (runningOf fresh) (pow-pos width) (without-small width _ 0 (setOf-small width _ (le-refl width))) (λ t l. has-none t ∙ sym (running-notes fresh t l))
+      none =
+          set-ext width 0 (runningOf fresh) (pow-pos width) (without-small width _ 0 (setOf-small width _ (le-refl width)))
+          (λ t l. has-none t ∙ sym (running-notes fresh t l))
 
   fresh-notes : notesOf fresh ≡ blank
   unfolding isStarted any

@@ -53,6 +53,12 @@ module _ (number : ℕ) (fault : ℕ → Bool) (rest : Verdict) {x : ℕ} (small
   unfolding unlessEmpty
   unless-set = by-test (eqb x 0) (λ e. rw e (set-empty (eqb-true x 0 e))) (λ e. rw e (set-faulty (eqb-false x 0 e)))
 
+-- ---- the sets of 14, 15 and 16
+
+pub idle-set : (s : State) (report t : ℕ) → t < width → has (without report (runningOf s)) t ≡ idle (notesOf s) report t
+unfolding idle
+idle-set s report t l = has-without report (runningOf s) t ∙ ap (λ (b : Bool). has report t && not b) (running-notes s t l)
+
 module _ (s : State) (a : Accepted (s .plan) (s .constraint)) (few : s .started ≤ s .plan .tasks) where
   -- the start of a started task
   start-notes : (t : ℕ) → isStarted s t ≡ true → orZero (notesOf s .start t) ≡ getD (s .starts) t 0
@@ -75,13 +81,8 @@ module _ (s : State) (a : Accepted (s .plan) (s .constraint)) (few : s .started 
         (has-own s a few (s .started) _ (x .0) (le-refl (s .started)) few (x .1)
         ∙ ap (λ (z : ℕ). leb (getD (s .starts) (entryAt (s .constraint .order) (x .0)) 0 + z) i) (sym (h (x .0) (omega (arith, x .1)))))
 
-  -- ---- the sets of 14, 15 and 16; the new instant is one more
-
+  -- the new instant is one more
   module _ (report : ℕ) where
-    pub idle-set : (t : ℕ) → t < width → has (without report (runningOf s)) t ≡ idle (notesOf s) report t
-    unfolding idle
-    idle-set t l = has-without report (runningOf s) t ∙ ap (λ (b : Bool). has report t && not b) (running-notes s t l)
-
     -- where no reported task is idle
     pub early-set : ((t : ℕ) → t < width → idle (notesOf s) report t ≡ false) → (t : ℕ) → t < width
         → has (without report (marksIn s .ripe)) t ≡ early (s .plan) (s .constraint) (notesOf s) report t

@@ -70,7 +70,7 @@ module _ (s : State) (report : ℕ) where
           (unless-set 16 _ _ (without-small width _ report (lt-of-le-of-lt (and-le-l _ _) (tasks-small _ _ _))) (overdue-set s a few report))
         where
           no-idle : (t : ℕ) → t < width → idle (notesOf s) report t ≡ false
-          no-idle t l = sym (idle-set s a few report t l) ∙ ap (λ (x : ℕ). has x t) e ∙ has-none t
+          no-idle t l = sym (idle-set s report t l) ∙ ap (λ (x : ℕ). has x t) e ∙ has-none t
 
       -- what follows a refusal is of no account
       refused-14 : (v w : Verdict) → eqb idles 0 ≡ false → unlessEmpty 14 idles v ≡ unlessEmpty 14 idles w
@@ -85,7 +85,7 @@ module _ (s : State) (report : ℕ) where
           rw (e, f, ← over-notes s)
           (ap (cond (over (s .plan) (notesOf s)) (refused 13 0))
           (by-test (eqb idles 0) (λ q. ap (unlessEmpty 14 idles) (sym (after-14 (eqb-true idles 0 q)))) (refused-14 _ _)
-          ∙ sym (unless-set 14 _ _ (without-small width report _ small) (idle-set s a few report)))
+          ∙ sym (unless-set 14 _ _ (without-small width report _ small) (idle-set s report)))
           ∙ sym sound-verdict)
 
 -- ---- what a tick is judged to be

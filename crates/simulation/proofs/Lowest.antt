@@ -37,7 +37,8 @@ module _ {n : ℕ} {order : List ℕ} {fails : ℕ → Bool} where
         let l = ltb-true (entryAt order k) r (and-right b _ h) in
         record {
           within = omega (arith, o .within, l);
-          passed = below-more (λ (i : ℕ). entryAt order i < entryAt order k → fails i ≡ false) k (λ i m x. o .passed i m (lt-trans x l)) (λ x. absurd (omega arith));
+          passed = below-more (λ (i : ℕ). entryAt order i < entryAt order k → fails i ≡ false) k (λ i m x. o .passed i m (lt-trans x l))
+              (λ x. absurd (omega arith));
           found = λ x. (k, omega arith, refl, sym e ∙ and-left b _ h);
         }
 
@@ -55,7 +56,8 @@ module _ {n : ℕ} {order : List ℕ} {fails : ℕ → Bool} where
   lowest-end {r = r} o e = subst (λ (x : ℕ). LowestOf n order fails x r) e o
 
 -- of all positions: the first task that fails
-pub lowest-all : (p : Plan) (c : Constraint) → Accepted p c → {fails : ℕ → Bool} (q : ℕ → Bool) → ((i : ℕ) → i < p .tasks → q (entryAt (c .order) i) ≡ fails i)
+pub lowest-all : (p : Plan) (c : Constraint) → Accepted p c → {fails : ℕ → Bool} (q : ℕ → Bool)
+    → ((i : ℕ) → i < p .tasks → q (entryAt (c .order) i) ≡ fails i)
     → {r : ℕ} → LowestOf (p .tasks) (c .order) fails (p .tasks) r → r ≡ first (p .tasks) q
 lowest-all p c a q h {r} o =
     first-unique (p .tasks) q r

@@ -85,10 +85,15 @@ loop-less c = search needs
 
 loop-again : tie.Need-loop-again Inv-loop μ-loop
 loop-again c =
-    upto-more (c .before .before .before .before .before .before .before .before .before .before .before .before .loop-test .taken)
-    (marks-more _ _ _ _ _ _ _ (c .before .before .before .before .before .before .before .before .before .before .before .before .before .loop .inv .is) (c .before .before .before .before .before .before .before .before .before .before .before .before .before .before .wide .ensures .0) (c .before .before .before .before .before .before .before .before .wide2 .ensures .0)
-    (c .before .before .before .before .before .before .wide3 .ensures .0 ∙ c .before .before .before .before .before .before .before .time-of .ensures) (c .before .before .before .before .wide4 .ensures .0 ∙ c .before .before .before .before .before .time-of2 .ensures)
-    (c .before .before .before .inserted .ensures) (c .before .before .inserted-if .ensures) (c .before .inserted-if2 .ensures) (c .inserted-if3 .ensures))
+    let w = c .before .before .before .before in
+    let b = w .before .before in
+    let s = b .before .before in
+    let l = s .before .before .before .before in
+    upto-more (l .loop-test .taken)
+    (marks-more _ _ _ _ _ _ _ (l .before .loop .inv .is) (l .before .before .wide .ensures .0) (s .wide2 .ensures .0)
+    (b .wide3 .ensures .0 ∙ b .before .time-of .ensures) (w .wide4 .ensures .0 ∙ w .before .time-of2 .ensures)
+    (c .before .before .before .inserted .ensures) (c .before .before .inserted-if .ensures) (c .before .inserted-if2 .ensures)
+    (c .inserted-if3 .ensures))
 
 returns : tie.Need-returns Inv-loop μ-loop
 returns c = upto-end (c .before .loop .inv) (c .loop-test .left)

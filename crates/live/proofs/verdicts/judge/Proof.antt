@@ -23,18 +23,29 @@ begin c = c .before .before .before .before .before .before .before .before .bef
 passed : (c : tie.Else1) → Passed (begin c .args .s)
 passed c = passed-first _ (c .before .before .check-parts .ensures) (c .if1 .left)
 
--- back to where the first two tests are passed
+-- back to where the first two tests are passed, by way of what was computed since
 abbrev from-marks : tie.After-mark-started → tie.Else1
 from-marks c = c .before .before .before .before .before .before .before .before
 
-abbrev from-sound : tie.After-is-sound → tie.Else1
-from-sound c = from-marks (c .before .before .before .before .before .before .before .before .before .before .before)
+abbrev from-users : tie.After-type-users → tie.After-mark-started
+from-users c = c .before .before .before .before
+
+abbrev from-over : tie.After-is-over → tie.After-type-users
+from-over c = c .before
+
+abbrev from-sound : tie.After-is-sound → tie.After-is-over
+from-sound c = c .before .before .before .before .before .before
+
+abbrev first-two : tie.After-is-sound → tie.Else1
+first-two c = from-marks (from-users (from-over (from-sound c)))
 
 -- what the sets say of soundness
-sound-is : (c : tie.After-is-sound) → c .is-sound .result ≡ isSound (begin (from-sound c) .args .s)
+sound-is : (c : tie.After-is-sound) → c .is-sound .result ≡ isSound (begin (first-two c) .args .s)
 sound-is c =
+    let o = from-sound c in
+    let u = from-over o in
     c .is-sound .ensures
-    ∙ sound-by _ (passed (from-sound c)) (c .before .before .before .before .before .before .before .type-users .ensures) (c .before .before .before .before .before .before .before .before .before .before .before .mark-started .ensures) (c .before .before .before .before .before .before .is-over .ensures)
+    ∙ sound-by _ (passed (first-two c)) (u .type-users .ensures) (from-users u .mark-started .ensures) (o .is-over .ensures)
 
 check-parts-requires : tie.Need-check-parts-requires
 check-parts-requires c κs = search needs
@@ -52,7 +63,7 @@ type-users-requires : tie.Need-type-users-requires
 type-users-requires c κs = let y = passed (from-marks (c .before .before .before)) .checked in (len-low _ _ y, type-low _ _ y)
 
 is-over-requires : tie.Need-is-over-requires
-is-over-requires c κs = tasks-low _ (passed (from-marks (c .before .before .before .before)))
+is-over-requires c κs = tasks-low _ (passed (from-marks (from-users c)))
 
 is-sound-requires : tie.Need-is-sound-requires
 is-sound-requires c κs = search needs
@@ -69,8 +80,10 @@ report-verdict-requires c κs = search needs
 returns-3 : tie.Need-returns-3
 returns-3 c =
     let k = c .before .before in
-    judged-sound _ _ (word (begin (from-sound k))) (sym (sound-is k) ∙ not-false _ (c .before .if2 .left)) (k .before .before .before .before .before .before .before .before .before .before .before .mark-started .ensures)
-    (k .before .before .before .before .before .before .is-over .ensures) (k .before .before .before .before .before .before .before .type-users .ensures) (c .report-verdict .ensures)
+    let o = from-sound k in
+    let u = from-over o in
+    judged-sound _ _ (word (begin (first-two k))) (sym (sound-is k) ∙ not-false _ (c .before .if2 .left))
+    (from-users u .mark-started .ensures) (o .is-over .ensures) (u .type-users .ensures) (c .report-verdict .ensures)
 
 pub judge-spec : {M : Type 1} → statement M
 judge-spec =
