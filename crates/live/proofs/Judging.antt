@@ -4,7 +4,7 @@ use mathlib.Core.Bool.{Bool, true, false, _&&_, _||_, not, and-true, and-false, 
 use mathlib.Core.List.{List}
 use mathlib.Core.Logic.{⊎-elim}
 use Prim.Native.Nat.{ℕ, _+_, _≤_, _<_}
-use native.Mathlib.Nat.{le-refl, le-trans, lt-of-lt-of-le}
+use native.Mathlib.Nat.{le-refl, lt-of-lt-of-le}
 use native.Mathlib.Omega.{arith}
 use borrow.Author.Tests.{ltb-true, ltb-false, lt-ltb, le-ltb, eqb-true, eq-eqb, le-leb, lt-leb, not-true, not-false}
 use lib.Bits.{bitAnd}
@@ -27,8 +27,8 @@ use Rattle.live.specs.declared.sets.Marks.{Marks}
 use Rattle.live.specs.States.{isStarted, notesOf}
 use Rattle.live.specs.Soundness.{startIn, lastInstant, checked, startedFits, finishedStarted, startCame, finishCame}
 use Rattle.live.specs.Soundness.{unusedZero, timeLeft, unitsEnough, instantLow, taskSound, isSound}
-use Rattle.live.specs.Steps.{reached, timesFit, allTimesFit, enoughFor, marksIn, runningOf, usersOf, soundBy}
-use Rattle.live.proofs.Ranges.{task-low}
+use Rattle.live.specs.Steps.{Positions, reached, timesFit, allTimesFit, enoughFor, marksIn, runningOf, usersOf, soundBy}
+use Rattle.live.proofs.Ranges.{positions}
 use Rattle.live.proofs.Standing.{has-first, tasks-small}
 use Rattle.live.proofs.StateBack.{started-notes, running-notes, over-notes}
 use Rattle.live.proofs.Choices.{started-position, has-own, busy-size}
@@ -78,11 +78,8 @@ module _ (s : State) where
     pub tasks-low : s .plan .tasks ≤ mostTasks
     tasks-low = a .few-tasks
 
-    pub started-low : s .started ≤ mostTasks
-    started-low = le-trans (y .few) (a .few-tasks)
-
-    pub entries-low : (j : ℕ) → j < s .started → entryAt (s .constraint .order) j < mostTasks
-    entries-low j l = task-low (s .plan) (s .constraint) (y .checked) j (omega (arith, a .whole, y .few))
+    pub positions-fit : Positions (s .constraint .order) (s .constraint .chosen) (s .constraint .len) (s .started)
+    positions-fit = positions (s .plan) (s .constraint) (y .checked) (s .started) (omega (arith, a .whole, y .few))
 
     -- ---- the clauses about tasks
 

@@ -7,6 +7,7 @@ pub mod Standing
 pub mod Marking
 pub mod Walking
 pub mod StateBack
+pub mod Stamps
 pub mod Choices
 pub mod WalkedNotes
 pub mod WalkedStates

@@ -8,6 +8,7 @@ use Rattle.plan.specs.declared.Constraint.{Constraint}
 use Rattle.plan.specs.Rules.{mostTasks, mostTypes}
 use Rattle.plan.specs.Refusals.{entryAt, verdict}
 use Rattle.plan.proofs.Accepted.{Accepted, accepted}
+use Rattle.live.specs.Steps.{Positions}
 
 module _ (p : Plan) (c : Constraint) (ok : verdict p c .number ≡ 0) where
   a : Accepted p c
@@ -21,3 +22,7 @@ module _ (p : Plan) (c : Constraint) (ok : verdict p c .number ≡ 0) where
 
   pub type-low : (j : ℕ) → j < c .len → entryAt (c .chosen) j < mostTypes
   type-low j l = lt-of-lt-of-le (a .type j (omega (arith, a .whole))) (a .few-types)
+
+  -- what a pass over the positions relies on
+  pub positions : (n : ℕ) → n ≤ c .len → Positions (c .order) (c .chosen) (c .len) n
+  positions n l = record { long = len-low; some = l; tasks = task-low; types = type-low }

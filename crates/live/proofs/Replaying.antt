@@ -39,9 +39,6 @@ pub record Filled (field : Answer → ℕ) (reports : List ℕ) (first : State) 
       ≡ map field (saidAfter first reports) ++ drop (length reports) before
 
 module _ (field : Answer → ℕ) (reports : List ℕ) (first : State) (before : List ℕ) where
-  pub filled-none : Filled field reports first before before first 0
-  filled-none = record { same-length = refl; whole = refl }
-
   pub filled-more : (buffer : List ℕ) (s : State) (i : ℕ) → i < length reports → length reports ≤ length before
       → Filled field reports first before buffer s i
       → Filled field reports first before (set buffer i (field (said (ticked s (getD reports i 0))))) (ticked s (getD reports i 0) .state) (suc i)

@@ -2,20 +2,17 @@
 use mathlib.Core.Path.{_≡_, refl, sym, ap, _∙_, fun-ext}
 use mathlib.Core.Bool.{Bool, true, false, cond, _&&_, _||_, or-false}
 use mathlib.Core.List.{List}
-use Prim.Native.Nat.{ℕ, _+_, _^_, _<_, zero-le}
-use native.Mathlib.Omega.{arith}
+use Prim.Native.Nat.{ℕ, _+_, _^_, _<_}
 use native.Mathlib.Nat.{le-refl}
-use borrow.Author.Tests.{le-ltb, ltb-true, lt-ltb, eq-eqb, ne-eqb}
-use lib.Dec.{eqb, ltb}
+use borrow.Author.Tests.{lt-ltb, eq-eqb, ne-eqb}
+use lib.Dec.{eqb}
 use lib.ListN.{getD, set}
 use lib.Pow.{pow-pos}
-use lib.Seq.{ext-getD}
 use Rattle.task_set.specs.Bounded.{any, tabulate}
 use Rattle.task_set.specs.Sets.{width, has, insert}
-use Rattle.task_set.proofs.Truth.{same}
 use Rattle.task_set.proofs.Bounded.{any-next}
 use Rattle.task_set.proofs.Members.{has-none, has-insert-low, insert-small, has-setOf, setOf-small, set-ext}
-use Rattle.task_set.proofs.Tables.{length-tabulate, getD-tabulate, set-tabulate}
+use Rattle.task_set.proofs.Tables.{getD-tabulate, set-tabulate}
 use Rattle.plan.specs.Rules.{mostTypes}
 use Rattle.plan.specs.Refusals.{entryAt}
 use Rattle.live.specs.Steps.{tasksAt, firstTasks, typeUsers}
@@ -90,33 +87,3 @@ users-more order chosen n l e f =
   where
     k : ℕ
     k = entryAt chosen n
-
--- ---- a table that a loop fills: the entries below i, and 0 from there on
-
-pub filled : (ℕ → ℕ) → ℕ → ℕ → ℕ
-filled f i t = cond (ltb t i) (f t) 0
-
-pub filled-none : (n : ℕ) (f : ℕ → ℕ) → tabulate n (λ t. 0) ≡ tabulate n (filled f 0)
-unfolding filled
-filled-none n f = ap (tabulate n) (fun-ext (λ t. sym (rw (le-ltb t 0 zero-le) refl)))
-
-pub filled-more : (n : ℕ) (f : ℕ → ℕ) (i : ℕ) {l : List ℕ} {v : ℕ} → i < n → l ≡ tabulate n (filled f i) → v ≡ f i
-    → set l i v ≡ tabulate n (filled f (i + 1))
-unfolding filled
-filled-more n f i m e g =
-    rw (e, g)
-    (ap (set (tabulate n (filled f i)) i) own
-    ∙ set-tabulate n (filled f i) (filled f (i + 1)) i
-    (λ t h. ap (λ (b : Bool). cond b (f t) 0)
-    (same (ltb t i) (ltb t (i + 1)) (λ q. lt-ltb t (i + 1) (omega (arith, ltb-true t i q)))
-    (λ q. lt-ltb t i (omega (arith, h, ltb-true t (i + 1) q))))))
-  where
-    own : f i ≡ filled f (i + 1) i
-    own = rw (lt-ltb i (i + 1) (omega arith)) refl
-
-pub filled-all : (n : ℕ) (f : ℕ → ℕ) → tabulate n (filled f n) ≡ tabulate n f
-unfolding filled
-filled-all n f =
-    ext-getD 0 (tabulate n (filled f n)) (tabulate n f) (length-tabulate n (filled f n) ∙ sym (length-tabulate n f))
-    (λ i m. let l : i < n = rw (length-tabulate n (filled f n)) at m in
-    getD-tabulate n (filled f n) i 0 l ∙ rw (lt-ltb i n l) (sym (getD-tabulate n f i 0 l)))

@@ -55,7 +55,7 @@ module _ (s : State) where
   over-notes = ap (all (s .plan .tasks)) (fun-ext finished-notes)
 
 -- a table of values that a list has is the list
-table-list : (f : ℕ → ℕ) (l : List ℕ) → length l ≡ mostTasks → ((t : ℕ) → f t ≡ getD l t 0) → tabulate mostTasks f ≡ l
+pub table-list : (f : ℕ → ℕ) (l : List ℕ) → length l ≡ mostTasks → ((t : ℕ) → f t ≡ getD l t 0) → tabulate mostTasks f ≡ l
 table-list f l e h =
     ext-getD 0 (tabulate mostTasks f) l (length-tabulate mostTasks f ∙ sym e)
     (λ i m. getD-tabulate mostTasks f i 0 (rw (length-tabulate mostTasks f) at m) ∙ h i)

@@ -57,20 +57,28 @@ allTimesFit starts finishes begun finished instant t =
 unfoldable pub enoughFor : List ℕ → List ℕ → ℕ → ℕ → Bool
 enoughFor units users running k = leb (size (bitAnd (getD users k 0) running)) (getD units k 0)
 
--- what one pass over the n started positions finds
-abbrev pub marksOf : List ℕ → List ℕ → List ℕ → List ℕ → List ℕ → ℕ → ℕ → Marks
-marksOf bcet wcet starts order chosen n instant =
+-- what a pass over the positions relies on
+pub record Positions (order chosen : List ℕ) (len n : ℕ) : Type 0 where
+  pub long : len ≤ mostTasks
+  pub some : n ≤ len
+  pub tasks : (j : ℕ) → j < len → entryAt order j < mostTasks
+  pub types : (j : ℕ) → j < len → entryAt chosen j < mostTypes
+
+-- what one pass over the positions finds, of which the first n have started
+abbrev pub marksOf : List ℕ → List ℕ → List ℕ → List ℕ → List ℕ → ℕ → ℕ → ℕ → Marks
+marksOf bcet wcet starts order chosen len n instant =
     record {
       begun = firstTasks order n;
       spent = reached wcet starts order chosen n instant;
       ripe = reached bcet starts order chosen n (instant + 1);
       due = reached wcet starts order chosen n (instant + 1);
+      users = tabulate mostTypes (typeUsers order chosen len);
     }
 
 -- the same of a state
 abbrev pub marksIn : State → Marks
 marksIn s =
-    marksOf (s .plan .bcet) (s .plan .wcet) (s .starts) (s .constraint .order) (s .constraint .chosen) (s .started) (s .instant)
+    marksOf (s .plan .bcet) (s .plan .wcet) (s .starts) (s .constraint .order) (s .constraint .chosen) (s .constraint .len) (s .started) (s .instant)
 
 -- the clauses of 12 after the first two, by sets
 unfoldable pub soundBy : List ℕ → List ℕ → List ℕ → List ℕ → Marks → Bool → ℕ → ℕ → Bool

@@ -66,8 +66,9 @@ pub fn start(p: Plan, c: Constraint) -> Ticked
         };
     }
     let len = c.len;
-    let users = sets::type_users(&c.order, &c.chosen, len);
     let zeros = [0; plan::MOST_TASKS];
+    let m = sets::mark_positions(&p.bcet, &p.wcet, &zeros, &c.order, &c.chosen, len, 0, 0);
+    let users = m.users;
     walk::walk_on(p, c, users, 0, 0, 0, 0, zeros, zeros)
 }
 
@@ -94,7 +95,7 @@ impl State {
         let instant = self.instant + 1;
         let finished = self.finished | report;
         let running = task_set::difference(j.begun, finished);
-        let finishes = step::stamped(&before, report, instant);
+        let finishes = step::stamped(before, report, instant);
         let users = j.users;
         walk::walk_on(p, c, users, running, instant, n, finished, starts, finishes)
     }

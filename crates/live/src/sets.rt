@@ -1,12 +1,9 @@
 // Sets of tasks that stand at the first positions of an order.
 ghost use mathlib.Core.Path.{_≡_};
 ghost use mathlib.Core.Bool.{cond};
-ghost use Prim.Native.Nat.{ℕ, _<_, _≤_, _^_};
-ghost use Rattle.task_set.specs.Bounded.{tabulate};
+ghost use Prim.Native.Nat.{_<_, _^_};
 ghost use Rattle.task_set.specs.Sets.{insert};
-ghost use Rattle.plan.specs.Rules.{mostTasks, mostTypes};
-ghost use Rattle.plan.specs.Refusals.{entryAt};
-ghost use Rattle.live.specs.Steps.{marksOf, typeUsers};
+ghost use Rattle.live.specs.Steps.{Positions, marksOf};
 use plan::MOST_PAIRS;
 use plan::MOST_TASKS;
 use plan::MOST_TYPES;
@@ -27,63 +24,51 @@ fn inserted_if(hit: bool, s: u64, t: usize) -> u64
     s
 }
 
-// The first n tasks of the order, by their chosen type.
-pub fn type_users<'a>(
-    order: &'a [usize; MOST_TASKS],
-    chosen: &'a [usize; MOST_TASKS],
-    n: usize,
-) -> [u64; MOST_TYPES]
-    requires { ⌜ (n ≤ mostTasks) × ((j : ℕ) → j < n → entryAt (now chosen) j < mostTypes) ⌝ }
-    ensures { λ r. ⌜ r ≡ tabulate mostTypes (typeUsers (now (order .entry)) (now (chosen .entry)) n) ⌝ }
-{
-    let mut users = [0u64; MOST_TYPES];
-    let mut i = 0;
-    while i < n {
-        let k = chosen[i];
-        let s = users[k];
-        users[k] = task_set::inserted(s, order[i]);
-        i += 1;
-    }
-    users
-}
-
-// The started tasks; those whose worst time has come; those whose best and whose worst time comes at the next instant.
+// The started tasks; those whose worst time has come; those whose best and whose worst time comes at the next instant; and
+// the tasks of the order by their chosen type.
 pub struct Marks {
     pub begun: u64,
     pub spent: u64,
     pub ripe: u64,
     pub due: u64,
+    pub users: [u64; MOST_TYPES],
 }
 
-// One pass over the n started positions.
-pub fn mark_started<'a>(
+// One pass over the positions, of which the first n have started.
+pub fn mark_positions<'a>(
     bcet: &'a [u32; MOST_PAIRS],
     wcet: &'a [u32; MOST_PAIRS],
     starts: &'a [u32; MOST_TASKS],
     order: &'a [usize; MOST_TASKS],
     chosen: &'a [usize; MOST_TASKS],
+    len: usize,
     n: usize,
     instant: u32,
 ) -> Marks
-    requires { ⌜ (n ≤ mostTasks) × ((j : ℕ) → j < n → entryAt (now order) j < mostTasks) ⌝ }
-    ensures { λ r. ⌜ r ≡ marksOf (now (bcet .entry)) (now (wcet .entry)) (now (starts .entry)) (now (order .entry)) (now (chosen .entry)) n instant ⌝ }
+    requires { ⌜ Positions (now order) (now chosen) len n ⌝ }
+    ensures { λ r. ⌜ r ≡ marksOf (now (bcet .entry)) (now (wcet .entry)) (now (starts .entry)) (now (order .entry)) (now (chosen .entry)) len n instant ⌝ }
 {
     let at = wide(instant);
     let mut begun: u64 = 0;
     let mut spent: u64 = 0;
     let mut ripe: u64 = 0;
     let mut due: u64 = 0;
+    let mut users = [0u64; MOST_TYPES];
     let mut i = 0;
-    while i < n {
+    while i < len {
         let t = order[i];
         let k = chosen[i];
-        let start = wide(starts[t]);
-        let best = start + wide(plan::time_of(bcet, t, k));
-        let worst = start + wide(plan::time_of(wcet, t, k));
-        begun = task_set::inserted(begun, t);
-        spent = inserted_if(worst <= at, spent, t);
-        ripe = inserted_if(best <= at + 1, ripe, t);
-        due = inserted_if(worst <= at + 1, due, t);
+        let s = users[k];
+        users[k] = task_set::inserted(s, t);
+        if i < n {
+            let start = wide(starts[t]);
+            let best = start + wide(plan::time_of(bcet, t, k));
+            let worst = start + wide(plan::time_of(wcet, t, k));
+            begun = task_set::inserted(begun, t);
+            spent = inserted_if(worst <= at, spent, t);
+            ripe = inserted_if(best <= at + 1, ripe, t);
+            due = inserted_if(worst <= at + 1, due, t);
+        }
         i += 1;
     }
     Marks {
@@ -91,5 +76,6 @@ pub fn mark_started<'a>(
         spent,
         ripe,
         due,
+        users,
     }
 }

@@ -5,8 +5,7 @@ ghost use Rattle.task_set.specs.Sets.{lowest};
 ghost use Rattle.live.specs.Steps.{Judges, verdictBy};
 use crate::State;
 use crate::sets::Marks;
-use crate::sets::mark_started;
-use crate::sets::type_users;
+use crate::sets::mark_positions;
 use crate::sound::is_over;
 use crate::sound::is_sound;
 use plan::MOST_TYPES;
@@ -95,8 +94,17 @@ pub fn judge(s: State, report: u64) -> Judged
     }
     let instant = s.instant;
     let finished = s.finished;
-    let m = mark_started(&p.bcet, &p.wcet, &starts, &c.order, &c.chosen, n, instant);
-    let users = type_users(&c.order, &c.chosen, len);
+    let m = mark_positions(
+        &p.bcet,
+        &p.wcet,
+        &starts,
+        &c.order,
+        &c.chosen,
+        len,
+        n,
+        instant,
+    );
+    let users = m.users;
     let over = is_over(tasks, finished);
     if !is_sound(
         &p.units,

@@ -1,6 +1,6 @@
 -- What a position waits for, as the loops find it: the latest finish of its predecessors, and the unit that is free first. Assumes nothing.
 use mathlib.Core.Path.{_≡_, refl, sym, ap, subst}
-use mathlib.Core.Bool.{Bool, true, cond, and-true, and-false}
+use mathlib.Core.Bool.{Bool, cond, and-true, and-false}
 use mathlib.Core.List.{List}
 use Prim.Native.Nat.{ℕ, _+_, _*_, _^_, _≤_, _<_, max, zero-le}
 use native.Mathlib.Nat.{le-refl, le-trans, le-antisymm, le-of-lt, add-zero}
@@ -8,8 +8,8 @@ use native.Mathlib.Omega.{arith}
 use borrow.Author.Count.{below-more}
 use borrow.Author.Tests.{eq-eqb, ne-eqb}
 use lib.ListN.{getD}
-use Rattle.task_set.specs.Sets.{width, has, remove, lowest, size}
-use Rattle.task_set.proofs.Members.{has-none, has-remove, lowest-first, lowest-low, size-remove}
+use Rattle.task_set.specs.Sets.{width, has, remove, lowest}
+use Rattle.task_set.proofs.Members.{has-none, has-remove, lowest-low, lowest-member}
 use Rattle.plan.specs.Rules.{mostTypes, mostUnits}
 use Rattle.dispatch_theory.proofs.Sums.{greatest-lub, greatest-apart}
 use Rattle.simulation.specs.Steps.{latestOf, unitIndex, freeFrom, FreeFirst}
@@ -27,11 +27,8 @@ module _ (s : ℕ) (fits : s < 2 ^ width) (some : s ≡ 0 → ⊥) where
   abbrev t : ℕ
   t = lowest s
 
-  pub low : t < width
+  low : t < width
   low = lowest-low s fits some
-
-  member : has s t ≡ true
-  member = lowest-first s .passes low
 
   pub latest-more : (finishes : List ℕ) (m : ℕ) → max (max m (getD finishes t 0)) (latestOf finishes (remove s t)) ≡ max m (latestOf finishes s)
   unfolding latestOf
@@ -39,7 +36,7 @@ module _ (s : ℕ) (fits : s < 2 ^ width) (some : s ≡ 0 → ⊥) where
       omega (
         arith,
         greatest-apart width (λ i. cond (has s i) (getD finishes i 0) 0) (λ i. cond (has (remove s t) i) (getD finishes i 0) 0) t low gone kept,
-        ap (λ (b : Bool). cond b (getD finishes t 0) 0) member,
+        ap (λ (b : Bool). cond b (getD finishes t 0) 0) (lowest-member s fits some),
       )
     where
       gone : cond (has (remove s t) t) (getD finishes t 0) 0 ≡ 0
@@ -47,9 +44,6 @@ module _ (s : ℕ) (fits : s < 2 ^ width) (some : s ≡ 0 → ⊥) where
 
       kept : (i : ℕ) → i < width → (i ≡ t → ⊥) → cond (has s i) (getD finishes i 0) 0 ≡ cond (has (remove s t) i) (getD finishes i 0) 0
       kept i l f = rw (has-remove s t i low, ne-eqb t i (λ e. f (sym e)), and-true (has s i)) refl
-
-  pub fewer-left : size (remove s t) < size s
-  fewer-left = omega (arith, size-remove s t low member)
 
 -- ---- the unit that is free first of those looked at
 

@@ -298,3 +298,12 @@ size-remove s t l e =
     go : (i : ℕ) (b : Bool) → eqb t i ≡ b → (has s i && not b) || b ≡ has s i
     go i true q = or-true (has s i && false) ∙ sym (ap (has s) (sym (eqb-true t i q)) ∙ e)
     go i false q = or-false (has s i && true) ∙ and-true (has s i)
+
+-- ---- a loop over the members: the lowest is looked at and removed
+
+module _ (s : ℕ) (fits : s < 2 ^ width) (some : s ≡ 0 → ⊥) where
+  pub lowest-member : has s (lowest s) ≡ true
+  lowest-member = lowest-first s .passes (lowest-low s fits some)
+
+  pub fewer-left : size (remove s (lowest s)) < size s
+  fewer-left = omega (arith, size-remove s (lowest s) (lowest-low s fits some) lowest-member)

@@ -46,14 +46,14 @@ stamped-requires c κs = search needs
 
 walk-on-requires : tie.Need-walk-on-requires
 walk-on-requires c κs =
-    let e = c .before .before .before .before .before .before .before .before .before .before in
+    let e = c .before .before .before .before .before .before .before .before .before in
     reported-walkable _ (shaped (begin e)) (sound e) _ (word (begin e)) (accepted-idle _ _ (taken e))
     (e .before .before .judge .ensures .begun (e .if1 .left)) (e .before .before .judge .ensures .users (e .if1 .left))
-    (c .before .before .before .difference .ensures) (c .before .stamped .ensures)
+    (c .before .before .difference .ensures) (c .before .stamped .ensures)
 
 returns-2 : tie.Need-returns-2
 returns-2 c =
-    let e = c .before .before .before .before .before .before .before .before .before .before .before in
+    let e = c .before .before .before .before .before .before .before .before .before .before in
     c .walk-on .ensures ∙ accepted-moved _ _ (taken e) (shaped (begin e)) (word (begin e)) (c .before .before .stamped .ensures)
 
 pub tick-spec : {M : Type 1} → statement M

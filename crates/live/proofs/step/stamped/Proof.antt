@@ -1,59 +1,55 @@
--- `live::step::stamped` meets its contract: the stamps of the tasks passed are set. Assumes nothing.
-use mathlib.Core.Path.{_∙_, refl}
-use Prim.Native.Nat.{ℕ, _-_}
+-- `live::step::stamped` meets its contract: what is stamped and what is left make the whole. Assumes nothing.
+use mathlib.Core.Path.{refl}
+use Prim.Native.Nat.{_<_, _^_}
 use borrow.Author.Needs.{needs}
-use Rattle.task_set.proofs.Upto.{Upto, upto-none, upto-more, upto-end}
-use Rattle.live.specs.Steps.{stampAt}
-use Rattle.live.proofs.Standing.{filled, filled-none, filled-more, filled-all}
 use Rattle.task_set.specs.Bounded.{tabulate}
+use Rattle.task_set.specs.Sets.{size, width}
 use Rattle.plan.specs.Rules.{mostTasks}
+use Rattle.live.specs.Steps.{stampAt}
+use Rattle.task_set.proofs.Members.{lowest-low, fewer-left}
+use Rattle.live.proofs.Stamps.{Stamped, stamped-more, stamped-all}
 use Rattle.live.proofs.step.stamped.Statement.{statement}
 use Rattle.live.proofs.step.stamped.Tie as tie
 
 abbrev Inv-loop : tie.InvT-loop
-Inv-loop finishes report instant stamps₀ t₀ stamps t =
-    Upto (λ (i : ℕ). tabulate mostTasks (filled (stampAt finishes report instant) i)) mostTasks t stamps
+Inv-loop report instant stamps₀ left₀ stamps left =
+    (left < 2 ^ width) × Stamped (tabulate mostTasks (stampAt stamps₀ report instant)) instant stamps left
 
 abbrev μ-loop : tie.MeasureT-loop
-μ-loop finishes report instant stamps₀ t₀ stamps t = mostTasks - t
+μ-loop report instant stamps₀ left₀ stamps left = size left
 
 loop-holds : tie.Need-loop-holds Inv-loop μ-loop
-unfolding tabulate
-loop-holds c = upto-none (filled-none mostTasks _)
+loop-holds c = (c .fits .report .fits, record { long = search needs; makes = refl })
 
-contains-requires : tie.Need-contains-requires Inv-loop μ-loop
-contains-requires c κs = search needs
+lowest-member-requires : tie.Need-lowest-member-requires Inv-loop μ-loop
+lowest-member-requires c κs = search needs
 
-mul-pick : tie.Need-mul-pick Inv-loop μ-loop
-mul-pick c = search needs
-
-element-copy-out-pick : tie.Need-element-copy-out-pick Inv-loop μ-loop
-element-copy-out-pick c = search needs
-
-pick-requires : tie.Need-pick-requires Inv-loop μ-loop
-pick-requires c κs = search needs
+cast-t : tie.Need-cast-t Inv-loop μ-loop
+cast-t c = search needs
 
 mul-stamps : tie.Need-mul-stamps Inv-loop μ-loop
 mul-stamps c = search needs
 
 array-write-stamps : tie.Need-array-write-stamps Inv-loop μ-loop
-array-write-stamps c = search needs
+array-write-stamps c = rw (c .lowest-member .ensures) (lowest-low _ (c .before .before .loop .inv .0) (c .before .loop-test .taken))
 
-add-t : tie.Need-add-t Inv-loop μ-loop
-add-t c = search needs
+removed-requires : tie.Need-removed-requires Inv-loop μ-loop
+removed-requires c κs = search needs
 
 loop-less : tie.Need-loop-less Inv-loop μ-loop
-loop-less c = search needs
+loop-less c =
+    rw (c .removed .ensures, c .before .lowest-member .ensures)
+    (fewer-left _ (c .before .before .before .loop .inv .0) (c .before .before .loop-test .taken))
 
 loop-again : tie.Need-loop-again Inv-loop μ-loop
-unfolding stampAt
 loop-again c =
-    upto-more (c .before .before .before .loop-test .taken)
-    (filled-more mostTasks _ _ (c .before .before .before .loop-test .taken) (c .before .before .before .before .loop .inv .is)
-    (c .pick .ensures ∙ rw (c .before .before .contains .ensures) refl))
+    let l = c .before .before .before .loop .inv in (
+      search needs,
+      rw (c .removed .ensures, c .before .lowest-member .ensures) (stamped-more _ (l .0) (c .before .before .loop-test .taken) _ (l .1)),
+    )
 
 returns : tie.Need-returns Inv-loop μ-loop
-returns c = upto-end (c .before .loop .inv) (c .loop-test .left) ∙ filled-all mostTasks _
+returns c = stamped-all _ (c .loop-test .left) (c .before .loop .inv .1)
 
 pub stamped-spec : {M : Type 1} → statement M
 stamped-spec =
@@ -62,13 +58,11 @@ stamped-spec =
     Inv-loop
     μ-loop
     loop-holds
-    contains-requires
-    mul-pick
-    element-copy-out-pick
-    pick-requires
+    lowest-member-requires
+    cast-t
     mul-stamps
     array-write-stamps
-    add-t
+    removed-requires
     loop-less
     loop-again
     returns)

@@ -1,13 +1,13 @@
 -- `live::verdicts::judge` meets its contract. Assumes nothing.
-use mathlib.Core.Path.{_≡_, sym, _∙_}
+use mathlib.Core.Path.{_≡_, sym, ap, _∙_}
 use Prim.Native.Nat.{_<_, _^_}
 use native.Mathlib.Omega.{arith}
 use borrow.Author.Needs.{needs}
 use borrow.Author.Tests.{not-true, not-false}
 use Rattle.task_set.specs.Sets.{width}
+use Rattle.live.specs.declared.sets.Marks.{Marks}
 use Rattle.live.specs.Soundness.{isSound}
-use Rattle.live.proofs.Judging.{Passed, unsound-first, passed-first, tasks-low, started-low, entries-low, sound-by}
-use Rattle.live.proofs.Ranges.{len-low, type-low}
+use Rattle.live.proofs.Judging.{Passed, unsound-first, passed-first, tasks-low, positions-fit, sound-by}
 use Rattle.live.proofs.TickAnswers.{judged-unsound, judged-sound}
 use Rattle.live.proofs.verdicts.judge.Statement.{statement}
 use Rattle.live.proofs.verdicts.judge.Tie as tie
@@ -24,28 +24,24 @@ passed : (c : tie.Else1) → Passed (begin c .args .s)
 passed c = passed-first _ (c .before .before .check-parts .ensures) (c .if1 .left)
 
 -- back to where the first two tests are passed, by way of what was computed since
-abbrev from-marks : tie.After-mark-started → tie.Else1
+abbrev from-marks : tie.After-mark-positions → tie.Else1
 from-marks c = c .before .before .before .before .before .before .before .before
 
-abbrev from-users : tie.After-type-users → tie.After-mark-started
-from-users c = c .before .before .before .before
-
-abbrev from-over : tie.After-is-over → tie.After-type-users
-from-over c = c .before
+abbrev from-over : tie.After-is-over → tie.After-mark-positions
+from-over c = c .before .before
 
 abbrev from-sound : tie.After-is-sound → tie.After-is-over
 from-sound c = c .before .before .before .before .before .before
 
 abbrev first-two : tie.After-is-sound → tie.Else1
-first-two c = from-marks (from-users (from-over (from-sound c)))
+first-two c = from-marks (from-over (from-sound c))
 
 -- what the sets say of soundness
 sound-is : (c : tie.After-is-sound) → c .is-sound .result ≡ isSound (begin (first-two c) .args .s)
 sound-is c =
     let o = from-sound c in
-    let u = from-over o in
-    c .is-sound .ensures
-    ∙ sound-by _ (passed (first-two c)) (u .type-users .ensures) (from-users u .mark-started .ensures) (o .is-over .ensures)
+    let e = from-over o .mark-positions .ensures in
+    c .is-sound .ensures ∙ sound-by _ (passed (first-two c)) (ap (λ (m : Marks). m .users) e) e (o .is-over .ensures)
 
 check-parts-requires : tie.Need-check-parts-requires
 check-parts-requires c κs = search needs
@@ -56,14 +52,11 @@ unsound-requires c κs = search needs
 returns : tie.Need-returns
 returns c = judged-unsound _ _ (unsound-first _ (c .before .before .before .check-parts .ensures) (c .before .if1 .taken)) (c .unsound .ensures)
 
-mark-started-requires : tie.Need-mark-started-requires
-mark-started-requires c κs = let y = passed (c .before .before .before .before .before .before .before) in (started-low _ y, entries-low _ y)
-
-type-users-requires : tie.Need-type-users-requires
-type-users-requires c κs = let y = passed (from-marks (c .before .before .before)) .checked in (len-low _ _ y, type-low _ _ y)
+mark-positions-requires : tie.Need-mark-positions-requires
+mark-positions-requires c κs = positions-fit _ (passed (c .before .before .before .before .before .before .before))
 
 is-over-requires : tie.Need-is-over-requires
-is-over-requires c κs = tasks-low _ (passed (from-marks (from-users c)))
+is-over-requires c κs = tasks-low _ (passed (from-marks (c .before)))
 
 is-sound-requires : tie.Need-is-sound-requires
 is-sound-requires c κs = search needs
@@ -81,9 +74,9 @@ returns-3 : tie.Need-returns-3
 returns-3 c =
     let k = c .before .before in
     let o = from-sound k in
-    let u = from-over o in
-    judged-sound _ _ (word (begin (first-two k))) (sym (sound-is k) ∙ not-false _ (c .before .if2 .left))
-    (from-users u .mark-started .ensures) (o .is-over .ensures) (u .type-users .ensures) (c .report-verdict .ensures)
+    let e = from-over o .mark-positions .ensures in
+    judged-sound _ _ (word (begin (first-two k))) (sym (sound-is k) ∙ not-false _ (c .before .if2 .left)) e (o .is-over .ensures)
+    (ap (λ (m : Marks). m .users) e) (c .report-verdict .ensures)
 
 pub judge-spec : {M : Type 1} → statement M
 judge-spec =
@@ -92,8 +85,7 @@ judge-spec =
     check-parts-requires
     unsound-requires
     returns
-    mark-started-requires
-    type-users-requires
+    mark-positions-requires
     is-over-requires
     is-sound-requires
     unsound-requires-2

@@ -5,7 +5,8 @@ use native.Mathlib.Nat.{zero-max}
 use borrow.Author.Needs.{needs}
 use Rattle.task_set.specs.Sets.{size, width}
 use Rattle.simulation.specs.Steps.{latestOf}
-use Rattle.simulation.proofs.Waits.{latest-more, fewer-left, low, latest-end}
+use Rattle.task_set.proofs.Members.{lowest-low, fewer-left}
+use Rattle.simulation.proofs.Waits.{latest-more, latest-end}
 use Rattle.simulation.proofs.run.latest_finish.Statement.{statement}
 use Rattle.simulation.proofs.run.latest_finish.Tie as tie
 
@@ -28,7 +29,7 @@ mul-later : tie.Need-mul-later Inv-loop μ-loop
 mul-later c = search needs
 
 element-copy-out-later : tie.Need-element-copy-out-later Inv-loop μ-loop
-element-copy-out-later c = rw (c .lowest-member .ensures) (low _ (c .before .before .loop .inv .0) (c .before .loop-test .taken))
+element-copy-out-later c = rw (c .lowest-member .ensures) (lowest-low _ (c .before .before .loop .inv .0) (c .before .loop-test .taken))
 
 later-requires : tie.Need-later-requires Inv-loop μ-loop
 later-requires c κs = search needs
