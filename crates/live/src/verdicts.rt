@@ -41,6 +41,7 @@ fn report_verdict(m: Marks, over: bool, finished: u64, report: u64) -> Verdict
         return refused(13, 0);
     }
     let running = task_set::difference(m.begun, finished);
+    let late = m.due & running;
     let idle = task_set::difference(report, running);
     if idle != 0 {
         return refused_at(14, idle);
@@ -49,7 +50,7 @@ fn report_verdict(m: Marks, over: bool, finished: u64, report: u64) -> Verdict
     if early != 0 {
         return refused_at(15, early);
     }
-    let overdue = task_set::difference(m.due & running, report);
+    let overdue = task_set::difference(late, report);
     if overdue != 0 {
         return refused_at(16, overdue);
     }

@@ -23,7 +23,13 @@ refused-at-requires c κs = search needs
 
 returns-2 : tie.Need-returns-2
 unfolding unlessEmpty verdictBy
-returns-2 c = rw (c .before .before .before .before .if1 .left, ← c .before .before .before .difference .ensures, ← c .before .before .difference2 .ensures, ne-eqb _ 0 (c .before .if2 .taken)) (c .refused-at .ensures)
+returns-2 c =
+    rw (
+      c .before .before .before .before .before .if1 .left,
+      ← c .before .before .before .before .difference .ensures,
+      ← c .before .before .difference2 .ensures,
+      ne-eqb _ 0 (c .before .if2 .taken),
+    ) (c .refused-at .ensures)
 
 difference-requires-3 : tie.Need-difference-requires-3
 difference-requires-3 c κs = search needs
@@ -33,7 +39,15 @@ refused-at-requires-2 c κs = search needs
 
 returns-3 : tie.Need-returns-3
 unfolding unlessEmpty verdictBy
-returns-3 c = rw (c .before .before .before .before .before .before .if1 .left, ← c .before .before .before .before .before .difference .ensures, ← c .before .before .before .before .difference2 .ensures, eq-eqb _ 0 (c .before .before .before .if2 .left), ← c .before .before .difference3 .ensures, ne-eqb _ 0 (c .before .if3 .taken)) (c .refused-at2 .ensures)
+returns-3 c =
+    rw (
+      c .before .before .before .before .before .before .before .if1 .left,
+      ← c .before .before .before .before .before .before .difference .ensures,
+      ← c .before .before .before .before .difference2 .ensures,
+      eq-eqb _ 0 (c .before .before .before .if2 .left),
+      ← c .before .before .difference3 .ensures,
+      ne-eqb _ 0 (c .before .if3 .taken),
+    ) (c .refused-at2 .ensures)
 
 difference-requires-4 : tie.Need-difference-requires-4
 difference-requires-4 c κs = search needs
@@ -43,14 +57,34 @@ refused-at-requires-3 c κs = search needs
 
 returns-4 : tie.Need-returns-4
 unfolding unlessEmpty verdictBy
-returns-4 c = rw (c .before .before .before .before .before .before .before .before .before .if1 .left, ← c .before .before .before .before .before .before .before .before .difference .ensures, ← c .before .before .before .before .before .before .before .difference2 .ensures, eq-eqb _ 0 (c .before .before .before .before .before .before .if2 .left), ← c .before .before .before .before .before .difference3 .ensures, eq-eqb _ 0 (c .before .before .before .before .if3 .left), ← c .before .before .difference4 .ensures, ne-eqb _ 0 (c .before .if4 .taken)) (c .refused-at3 .ensures)
+returns-4 c =
+    rw (
+      c .before .before .before .before .before .before .before .before .before .if1 .left,
+      ← c .before .before .before .before .before .before .before .before .difference .ensures,
+      ← c .before .before .before .before .before .before .difference2 .ensures,
+      eq-eqb _ 0 (c .before .before .before .before .before .if2 .left),
+      ← c .before .before .before .before .difference3 .ensures,
+      eq-eqb _ 0 (c .before .before .before .if3 .left),
+      ← c .before .before .difference4 .ensures,
+      ne-eqb _ 0 (c .before .if4 .taken),
+    ) (c .refused-at3 .ensures)
 
 refused-requires-2 : tie.Need-refused-requires-2
 refused-requires-2 c κs = search needs
 
 returns-5 : tie.Need-returns-5
 unfolding unlessEmpty verdictBy
-returns-5 c = rw (c .before .before .before .before .before .before .before .before .before .if1 .left, ← c .before .before .before .before .before .before .before .before .difference .ensures, ← c .before .before .before .before .before .before .before .difference2 .ensures, eq-eqb _ 0 (c .before .before .before .before .before .before .if2 .left), ← c .before .before .before .before .before .difference3 .ensures, eq-eqb _ 0 (c .before .before .before .before .if3 .left), ← c .before .before .difference4 .ensures, eq-eqb _ 0 (c .before .if4 .left)) (c .refused2 .ensures)
+returns-5 c =
+    rw (
+      c .before .before .before .before .before .before .before .before .before .if1 .left,
+      ← c .before .before .before .before .before .before .before .before .difference .ensures,
+      ← c .before .before .before .before .before .before .difference2 .ensures,
+      eq-eqb _ 0 (c .before .before .before .before .before .if2 .left),
+      ← c .before .before .before .before .difference3 .ensures,
+      eq-eqb _ 0 (c .before .before .before .if3 .left),
+      ← c .before .before .difference4 .ensures,
+      eq-eqb _ 0 (c .before .if4 .left),
+    ) (c .refused2 .ensures)
 
 pub report-verdict-spec : {M : Type 1} → statement M
 report-verdict-spec =
