@@ -27,7 +27,8 @@ use Rattle.live.specs.declared.sets.Marks.{Marks}
 use Rattle.live.specs.States.{isStarted, notesOf}
 use Rattle.live.specs.Soundness.{startIn, lastInstant, checked, startedFits, finishedStarted, startCame, finishCame}
 use Rattle.live.specs.Soundness.{unusedZero, timeLeft, unitsEnough, instantLow, taskSound, isSound}
-use Rattle.live.specs.Steps.{Positions, reached, timesFit, allTimesFit, enoughFor, marksIn, runningOf, usersOf, soundBy}
+use Rattle.live.specs.Steps.{Positions, reached, timesFit, allTimesFit, enoughFor, runningOf, usersOf, soundBy}
+use Rattle.live.proofs.Marking.{marksIn}
 use Rattle.live.proofs.Ranges.{positions}
 use Rattle.live.proofs.Standing.{has-first, tasks-small}
 use Rattle.live.proofs.StateBack.{started-notes, running-notes, over-notes}

@@ -10,9 +10,15 @@ use Rattle.task_set.specs.Bounded.{tabulate}
 use Rattle.task_set.specs.Sets.{insert}
 use Rattle.plan.specs.Rules.{mostTypes, timeOf}
 use Rattle.plan.specs.Refusals.{entryAt}
+use Rattle.live.specs.declared.State.{State}
 use Rattle.live.specs.declared.sets.Marks.{Marks}
 use Rattle.live.specs.Steps.{typeUsers, reached, marksOf}
 use Rattle.live.proofs.Standing.{tasks-none, tasks-step, first-all, users-none, users-more}
+
+-- what the pass finds of a state
+abbrev pub marksIn : State → Marks
+marksIn s =
+    marksOf (s .plan .bcet) (s .plan .wcet) (s .starts) (s .constraint .order) (s .constraint .chosen) (s .constraint .len) (s .started) (s .instant)
 
 module _ (bcet wcet starts order chosen : List ℕ) (n instant : ℕ) where
   -- the first k positions looked at, of which those below m have started

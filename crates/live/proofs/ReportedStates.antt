@@ -25,8 +25,17 @@ use Rattle.live.specs.declared.State.{State}
 use Rattle.live.specs.States.{isStarted, notesOf}
 use Rattle.live.specs.Soundness.{lastInstant, checked, startedFits, finishedStarted, startCame, finishCame, unusedZero}
 use Rattle.live.specs.Soundness.{unitsEnough, instantLow, taskSound, isSound}
-use Rattle.live.specs.Steps.{firstTasks, usersOf, stampAt, nextState, reportedState, Tidy, Walkable}
+use Rattle.live.specs.Steps.{firstTasks, usersOf, stateFrom, stampAt, Tidy, Walkable}
 use Rattle.live.proofs.StateBack.{started-notes}
+
+-- the state at the next instant, with the reported tasks finished and these finishes
+abbrev pub nextState : State → ℕ → List ℕ → State
+nextState s report finishes =
+    stateFrom (s .plan) (s .constraint) (s .instant + 1) (s .started) (bitOr (s .finished) report) (s .starts) finishes
+
+-- the same with the finishes that the report tells
+abbrev pub reportedState : State → ℕ → State
+reportedState s report = nextState s report (tabulate mostTasks (stampAt (s .finishes) report (s .instant + 1)))
 
 -- a state's words and arrays are as wide as their types
 pub record Shaped (s : State) : Type 0 where

@@ -25,7 +25,8 @@ use Rattle.runs.specs.Journal.{idle, early, overdue}
 use Rattle.runs.proofs.Positions.{best-entry, worst-entry}
 use Rattle.live.specs.declared.State.{State}
 use Rattle.live.specs.States.{isStarted, notesOf}
-use Rattle.live.specs.Steps.{reached, marksIn, runningOf, unlessEmpty}
+use Rattle.live.specs.Steps.{reached, runningOf, unlessEmpty}
+use Rattle.live.proofs.Marking.{marksIn}
 use Rattle.live.proofs.StateBack.{started-notes, running-notes}
 use Rattle.live.proofs.Choices.{started-position, has-own}
 

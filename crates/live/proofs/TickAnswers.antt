@@ -25,11 +25,12 @@ use Rattle.live.specs.Soundness.{isSound}
 use Rattle.live.specs.Ticks.{moved, stayed, tickVerdict, ticked}
 use Rattle.live.specs.declared.sets.Marks.{Marks}
 use Rattle.live.specs.declared.verdicts.Judged.{Judged}
-use Rattle.live.specs.Steps.{reached, marksIn, runningOf, usersOf, unlessEmpty, verdictBy, stampAt, nextState, walkedOn, Judges}
+use Rattle.live.specs.Steps.{reached, runningOf, usersOf, unlessEmpty, verdictBy, stampAt, walkedOn, Judges}
+use Rattle.live.proofs.Marking.{marksIn}
 use Rattle.live.proofs.Standing.{tasks-small}
 use Rattle.live.proofs.StateBack.{over-notes}
 use Rattle.live.proofs.Reports.{unless-set, idle-set, early-set, overdue-set}
-use Rattle.live.proofs.ReportedStates.{Shaped, sound-checked, sound-few, reported-notes}
+use Rattle.live.proofs.ReportedStates.{nextState, Shaped, sound-checked, sound-few, reported-notes}
 
 module _ (s : State) (report : ℕ) where
   pub says-12 : isSound s ≡ false → tickVerdict s report ≡ refused 12 0

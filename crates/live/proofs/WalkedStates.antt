@@ -21,9 +21,16 @@ use Rattle.live.specs.declared.State.{State}
 use Rattle.live.specs.declared.walk.Walked.{Walked}
 use Rattle.live.specs.States.{isStarted, notesOf}
 use Rattle.live.specs.Ticks.{moved}
-use Rattle.live.specs.Steps.{runningOf, walkFrom, stateFrom, Tidy, Walkable, walkOf, walkedOn}
+use Rattle.live.specs.Steps.{runningOf, walkFrom, stateFrom, Tidy, Walkable, usersOf, walkedOn}
 use Rattle.live.proofs.StateBack.{started-notes, running-notes, state-back}
 use Rattle.live.proofs.WalkedNotes.{Right, walk-notes}
+
+-- the walk of a state from where it stands
+unfoldable pub walkOf : State → Walked
+walkOf s =
+    walkFrom (s .plan .units) (s .plan .predecessors) (s .constraint .order) (s .constraint .chosen) (usersOf s) (s .instant) (s .finished)
+    (s .constraint .len - s .started)
+    (record { begun = s .started; running = runningOf s; fresh = 0; starts = s .starts })
 
 module _ (s : State) (y : Tidy s) where
   a : Accepted (s .plan) (s .constraint)

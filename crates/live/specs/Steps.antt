@@ -3,7 +3,7 @@ use mathlib.Core.Path.{_≡_}
 use mathlib.Core.Bool.{Bool, true, false, cond, _&&_, _||_}
 use mathlib.Core.List.{List}
 use Prim.Native.Nat.{ℕ, zero, suc, _+_, _-_, _^_, _≤_, _<_}
-use lib.Bits.{bitAnd, bitOr}
+use lib.Bits.{bitAnd}
 use lib.Dec.{eqb, leb, ltb}
 use lib.ListN.{getD, length, set}
 use Rattle.task_set.specs.Bounded.{all, any, implies, tabulate}
@@ -75,11 +75,6 @@ marksOf bcet wcet starts order chosen len n instant =
       users = tabulate mostTypes (typeUsers order chosen len);
     }
 
--- the same of a state
-abbrev pub marksIn : State → Marks
-marksIn s =
-    marksOf (s .plan .bcet) (s .plan .wcet) (s .starts) (s .constraint .order) (s .constraint .chosen) (s .constraint .len) (s .started) (s .instant)
-
 -- the clauses of 12 after the first two, by sets
 unfoldable pub soundBy : List ℕ → List ℕ → List ℕ → List ℕ → Marks → Bool → ℕ → ℕ → Bool
 soundBy units users starts finishes m over finished instant =
@@ -135,13 +130,6 @@ usersOf s = tabulate mostTypes (typeUsers (s .constraint .order) (s .constraint 
 abbrev pub runningOf : State → ℕ
 runningOf s = without (firstTasks (s .constraint .order) (s .started)) (s .finished)
 
--- the walk of a state from where it stands
-unfoldable pub walkOf : State → Walked
-walkOf s =
-    walkFrom (s .plan .units) (s .plan .predecessors) (s .constraint .order) (s .constraint .chosen) (usersOf s) (s .instant) (s .finished)
-    (s .constraint .len - s .started)
-    (record { begun = s .started; running = runningOf s; fresh = 0; starts = s .starts })
-
 -- a state after the walk of its instant, and the tasks that the walk started
 abbrev pub walkedOn : State → Ticked
 walkedOn s =
@@ -158,15 +146,6 @@ pub record Judges (s : State) (report : ℕ) (j : Judged) : Type 0 where
 -- the finish of task t, once the reported tasks have the instant as theirs
 unfoldable pub stampAt : List ℕ → ℕ → ℕ → ℕ → ℕ
 stampAt finishes report instant t = cond (has report t) instant (getD finishes t 0)
-
--- the state at the next instant, with the reported tasks finished and these finishes
-abbrev pub nextState : State → ℕ → List ℕ → State
-nextState s report finishes =
-    stateFrom (s .plan) (s .constraint) (s .instant + 1) (s .started) (bitOr (s .finished) report) (s .starts) finishes
-
--- the same with the finishes that the report tells
-abbrev pub reportedState : State → ℕ → State
-reportedState s report = nextState s report (tabulate mostTasks (stampAt (s .finishes) report (s .instant + 1)))
 
 -- what the check and the tests of soundness leave for the walk to rely on
 pub record Tidy (s : State) : Type 0 where
