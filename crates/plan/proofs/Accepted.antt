@@ -2,6 +2,7 @@
 use mathlib.Core.Path.{_≡_, refl, sym, ap, _∙_}
 use mathlib.Core.Bool.{Bool, true, false, not}
 use Prim.Native.Nat.{ℕ, _≤_, _<_}
+use native.Mathlib.Nat.{lt-of-lt-of-le}
 use native.Mathlib.Omega.{arith}
 use borrow.Author.Tests.{eqb-true, eqb-false, eqb-true, leb-false, ltb-true, ltb-false, not-false}
 use lib.Dec.{eqb, leb, ltb}
@@ -15,7 +16,7 @@ use Rattle.plan.specs.declared.Plan.{Plan}
 use Rattle.plan.specs.declared.Constraint.{Constraint}
 use Rattle.plan.specs.Rules.{mostTypes, mostUnits, mostTasks, timeOf, predecessorsOf, planOk}
 use Rattle.plan.specs.Refusals.{entryAt, misplaced, unusable, verdict}
-use Rattle.plan.specs.Steps.{placed, unmet}
+use Rattle.plan.specs.Steps.{placed, unmet, Positions}
 use Rattle.plan.proofs.Kept.{Times, some-types, few-types, some-tasks, few-tasks, some-units, few-units, usable-times}
 use Rattle.plan.proofs.Arranged.{Arranged, once, somewhere}
 use Rattle.plan.proofs.Verdicts.{says-8, says-9-length, says-9, says-10, says-11, in-order}
@@ -117,3 +118,9 @@ module _ (p : Plan) (c : Constraint) (e : verdict p c .number ≡ 0) where
         times = times-here;
         earlier = λ i u l. before-here i l u;
       }
+
+-- what a pass over the positions relies on
+pub positions : (p : Plan) (c : Constraint) → Accepted p c → Positions (c .order) (c .chosen) (c .len)
+positions p c a =
+    rw (a .whole)
+    (record { few = a .few-tasks; task = a .task; once = a .once; type = λ i l. lt-of-lt-of-le (a .type i l) (a .few-types) })

@@ -1,12 +1,13 @@
--- What an inner function of the check computes. No promise of a public function cites it. Assumes nothing.
+-- What inner functions compute and rely on, here and in the crates above. No promise of a public function cites it. Assumes nothing.
+use mathlib.Core.Path.{_≡_}
 use mathlib.Core.Bool.{Bool, cond, _&&_, _||_, not}
 use mathlib.Core.List.{List}
-use Prim.Native.Nat.{ℕ}
+use Prim.Native.Nat.{ℕ, _≤_, _<_}
 use lib.Dec.{eqb, leb, ltb}
 use lib.ListN.{getD}
 use Rattle.task_set.specs.Bounded.{all, any}
 use Rattle.task_set.specs.Sets.{has, width}
-use Rattle.plan.specs.Rules.{mostTypes, longestTime, predecessorsOf, usable, predecessorsOk}
+use Rattle.plan.specs.Rules.{mostTypes, mostTasks, longestTime, predecessorsOf, usable, predecessorsOk}
 use Rattle.plan.specs.Refusals.{entryAt}
 
 -- a pair is 0 and 0, or 1 ≤ best ≤ worst ≤ 65,535
@@ -36,3 +37,10 @@ placed order i u = any i (λ j. eqb (entryAt order j) u)
 -- some predecessor of the task at position i does not stand before it
 unfoldable pub unmet : List ℕ → List ℕ → ℕ → Bool
 unmet predecessors order i = any width (λ u. has (predecessorsOf predecessors (entryAt order i)) u && not (placed order i u))
+
+-- the first n entries of an accepted order: tasks below n, no two the same, with types that are kept
+pub record Positions (order chosen : List ℕ) (n : ℕ) : Type 0 where
+  pub few : n ≤ mostTasks
+  pub task : (i : ℕ) → i < n → entryAt order i < n
+  pub once : (i j : ℕ) → i < n → j < n → entryAt order i ≡ entryAt order j → i ≡ j
+  pub type : (i : ℕ) → i < n → entryAt chosen i < mostTypes

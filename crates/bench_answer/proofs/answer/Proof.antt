@@ -5,20 +5,8 @@ use Rattle.bench_answer.proofs.Answered.{unread, refuses-it, times-it}
 use Rattle.bench_answer.proofs.answer.Statement.{statement}
 use Rattle.bench_answer.proofs.answer.Tie as tie
 
-read-requires : tie.Need-read-requires
-read-requires c κs = search needs
-
-put-refusal-requires : tie.Need-put-refusal-requires
-put-refusal-requires c κs = search needs
-
 returns : tie.Need-returns
 returns c = unread _ (c .before .before .before .read .ensures) _ (omega arith) (c .before .before .if1 .taken) (c .put-refusal .ensures)
-
-worst-timetable-requires : tie.Need-worst-timetable-requires
-worst-timetable-requires c κs = search needs
-
-put-refusal-requires-2 : tie.Need-put-refusal-requires-2
-put-refusal-requires-2 c κs = search needs
 
 returns-2 : tie.Need-returns-2
 returns-2 c =
@@ -34,12 +22,5 @@ returns-3 c =
 
 pub answer-spec : {M : Type 1} → statement M
 answer-spec =
-    tie.close
-    (tie.spec
-    read-requires
-    put-refusal-requires
-    returns
-    worst-timetable-requires
-    put-refusal-requires-2
-    returns-2
-    returns-3)
+    tie.close (tie.spec (λ c κs. search needs) (λ c κs. search needs) returns (λ c κs. search needs)
+    (λ c κs. search needs) returns-2 returns-3)

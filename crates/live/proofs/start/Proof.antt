@@ -14,17 +14,8 @@ use Rattle.live.proofs.start.Tie as tie
 taken : (c : tie.Else1) → verdict (c .before .before .before .args .t1) (c .before .before .before .args .t2) .number ≡ 0
 taken c = sym (ap (λ (v : Verdict). v .number) (c .before .before .check .ensures)) ∙ c .if1 .left
 
-check-requires : tie.Need-check-requires
-check-requires c κs = search needs
-
-no-state-requires : tie.Need-no-state-requires
-no-state-requires c κs = search needs
-
 returns : tie.Need-returns
 returns c = ap (stayed _) (c .no-state .ensures) ∙ start-refused _ _ (c .before .before .before .check .ensures) (c .before .if1 .taken)
-
-mark-positions-requires : tie.Need-mark-positions-requires
-mark-positions-requires c κs = positions _ _ (taken (c .before .before .before .before .before .before .before)) 0 zero-le
 
 walk-on-requires : tie.Need-walk-on-requires
 walk-on-requires c κs = fresh-walkable _ _ (taken (c .before .before .before .before .before .before .before .before .before)) (ap (λ (m : Marks). m .users) (c .before .mark-positions .ensures))
@@ -34,11 +25,6 @@ returns-2 c = c .walk-on .ensures ∙ start-walked _ _ (taken (c .before .before
 
 pub start-spec : {M : Type 1} → statement M
 start-spec =
-    tie.close
-    (tie.spec
-    check-requires
-    no-state-requires
-    returns
-    mark-positions-requires
-    walk-on-requires
-    returns-2)
+    tie.close (tie.spec (λ c κs. search needs) (λ c κs. search needs) returns
+    (λ c κs. positions _ _ (taken (c .before .before .before .before .before .before .before)) 0 zero-le)
+    walk-on-requires returns-2)

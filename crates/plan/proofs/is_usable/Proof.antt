@@ -6,12 +6,9 @@ use Rattle.plan.specs.Rules.{usable}
 use Rattle.plan.proofs.is_usable.Statement.{statement}
 use Rattle.plan.proofs.is_usable.Tie as tie
 
-time-of-requires : tie.Need-time-of-requires
-time-of-requires c κs = search needs
-
 returns : tie.Need-returns
 unfolding usable
 returns c = ap (ltb 0) (c .time-of .ensures)
 
 pub is-usable-spec : {M : Type 1} → statement M
-is-usable-spec = tie.close (tie.spec time-of-requires returns)
+is-usable-spec = tie.close (tie.spec (λ c κs. search needs) returns)

@@ -9,15 +9,9 @@ returns : tie.Need-returns
 unfolding predecessorsOf
 returns c = simp (le-ltb _ _ (c .if1 .taken))
 
-mul-result : tie.Need-mul-result
-mul-result c = search needs
-
-element-copy-out-result : tie.Need-element-copy-out-result
-element-copy-out-result c = search needs
-
 returns-2 : tie.Need-returns-2
 unfolding predecessorsOf
 returns-2 c = simp (lt-ltb _ _ (c .before .if1 .left))
 
 pub predecessors-of-spec : {M : Type 1} → statement M
-predecessors-of-spec = tie.close (tie.spec returns mul-result element-copy-out-result returns-2)
+predecessors-of-spec = tie.close (tie.spec returns (λ c. search needs) (λ c. search needs) returns-2)

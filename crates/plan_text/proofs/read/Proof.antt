@@ -77,31 +77,10 @@ done c =
     let f = past c .before in
     c .line-done .ensures ∙ ap (lineDone (read (turn f))) (f .before .before .before .line-at .ensures)
 
-refuse-requires : tie.Need-refuse-requires Inv-loop μ-loop
-refuse-requires c κs = search needs
-
-returns : tie.Need-returns Inv-loop μ-loop
-returns c = c .refuse .ensures ∙ sym (text-long _ (c .before .if1 .taken))
-
-no-counts-requires : tie.Need-no-counts-requires Inv-loop μ-loop
-no-counts-requires c κs = search needs
-
 loop-holds : tie.Need-loop-holds Inv-loop μ-loop
 loop-holds c =
     let z : gather _ _ _ _ _ _ (c .no-counts .result) ≡ nothing = ap (gather _ _ _ _ _ _) (c .no-counts .ensures) in
     (search needs, search needs, text-short _ (c .before .if1 .left) ∙ ap (readLines _ 1) (sym z), subst Counted (sym z) counted-none)
-
-line-end-requires : tie.Need-line-end-requires Inv-loop μ-loop
-line-end-requires c κs = search needs
-
-line-at-requires : tie.Need-line-at-requires Inv-loop μ-loop
-line-at-requires c κs = omega (arith, c .line-end .ensures)
-
-line-fault-requires : tie.Need-line-fault-requires Inv-loop μ-loop
-line-fault-requires c κs = search needs
-
-refuse-requires-2 : tie.Need-refuse-requires-2 Inv-loop μ-loop
-refuse-requires-2 c κs = search needs
 
 returns-2 : tie.Need-returns-2 Inv-loop μ-loop
 returns-2 c =
@@ -116,15 +95,6 @@ line-done-requires c κs =
     let l = turn (e .before) .loop in
     (sym (e .before .line-fault .ensures (l .units) (l .bcet) (l .order) (l .chosen)) ∙ e .if2 .left, l .inv .3)
 
-add-at : tie.Need-add-at Inv-loop μ-loop
-add-at c = omega (arith, within (past c))
-
-add-place : tie.Need-add-place Inv-loop μ-loop
-add-place c = search needs
-
-loop-less : tie.Need-loop-less Inv-loop μ-loop
-loop-less c = omega (arith, within (past c))
-
 loop-again : tie.Need-loop-again Inv-loop μ-loop
 loop-again c =
     let e = past c in
@@ -138,9 +108,6 @@ loop-again c =
       subst Counted (sym (done c)) (counted-more (read l) _ (faultless e) (l .loop .inv .3)),
     )
 
-accept-requires : tie.Need-accept-requires Inv-loop μ-loop
-accept-requires c κs = search needs
-
 returns-3 : tie.Need-returns-3 Inv-loop μ-loop
 returns-3 c =
     let l = c .before .before in
@@ -148,23 +115,8 @@ returns-3 c =
 
 pub read-spec : {M : Type 1} → statement M
 read-spec =
-    tie.close
-    (tie.spec
-    Inv-loop
-    μ-loop
-    refuse-requires
-    returns
-    no-counts-requires
-    loop-holds
-    line-end-requires
-    line-at-requires
-    line-fault-requires
-    refuse-requires-2
-    returns-2
-    line-done-requires
-    add-at
-    add-place
-    loop-less
-    loop-again
-    accept-requires
-    returns-3)
+    tie.close (tie.spec Inv-loop μ-loop (λ c κs. search needs)
+    (λ c. c .refuse .ensures ∙ sym (text-long _ (c .before .if1 .taken))) (λ c κs. search needs) loop-holds
+    (λ c κs. search needs) (λ c κs. omega (arith, c .line-end .ensures)) (λ c κs. search needs) (λ c κs. search needs)
+    returns-2 line-done-requires (λ c. omega (arith, within (past c))) (λ c. search needs)
+    (λ c. omega (arith, within (past c))) loop-again (λ c κs. search needs) returns-3)

@@ -18,20 +18,8 @@ checked c = sym (ap (λ (v : Verdict). v .number) (c .before .before .check-part
 abbrev took : tie.After-chosen-times → tie.Else1
 took c = c .before .before .before .before .before .before
 
-check-parts-requires : tie.Need-check-parts-requires
-check-parts-requires c κs = search needs
-
-not-run-requires : tie.Need-not-run-requires
-not-run-requires c κs = search needs
-
 returns : tie.Need-returns
 returns c = with-sum _ _ (c .not-run .ensures ∙ bound-refused _ _ (c .before .before .before .check-parts .ensures) (c .before .if1 .taken))
-
-chosen-times-requires : tie.Need-chosen-times-requires
-chosen-times-requires c κs = distinct _ _ (accepted _ _ (checked (c .before .before .before .before .before)))
-
-slice-aggregate-run : tie.Need-slice-aggregate-run
-slice-aggregate-run c = search needs
 
 run-requires : tie.Need-run-requires
 run-requires c κs = let w = c .before .before .before .before .before .before .before in (_, ready-worst _ _ (checked (took w)) (w .chosen-times .ensures))
@@ -43,12 +31,6 @@ returns-2 c =
 
 pub bound-spec : {M : Type 1} → statement M
 bound-spec =
-    tie.close
-    (tie.spec
-    check-parts-requires
-    not-run-requires
-    returns
-    chosen-times-requires
-    slice-aggregate-run
-    run-requires
-    returns-2)
+    tie.close (tie.spec (λ c κs. search needs) (λ c κs. search needs) returns
+    (λ c κs. distinct _ _ (accepted _ _ (checked (c .before .before .before .before .before)))) (λ c. search needs)
+    run-requires returns-2)

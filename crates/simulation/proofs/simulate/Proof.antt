@@ -19,26 +19,11 @@ checked c = sym (ap (λ (v : Verdict). v .number) (c .before .before .check-part
 abbrev counted : tie.After-first-outside → tie.Else2
 counted c = c .before .before .before .before .before .before .before
 
-check-parts-requires : tie.Need-check-parts-requires
-check-parts-requires c κs = search needs
-
-not-run-requires : tie.Need-not-run-requires
-not-run-requires c κs = search needs
-
 returns : tie.Need-returns
 returns c = c .not-run .ensures ∙ simulation-refused _ _ (c .before .before .before .check-parts .ensures) (c .before .if1 .taken) _
 
-not-run-requires-2 : tie.Need-not-run-requires-2
-not-run-requires-2 c κs = search needs
-
-returns-2 : tie.Need-returns-2
-returns-2 c = c .not-run2 .ensures ∙ says-17 _ _ (checked (c .before .before)) _ (c .before .if2 .taken)
-
 first-outside-requires : tie.Need-first-outside-requires
 first-outside-requires c κs = let e = c .before .before .before .before .before .before in (distinct _ _ (accepted _ _ (checked (e .before))), e .if2 .left)
-
-not-run-requires-3 : tie.Need-not-run-requires-3
-not-run-requires-3 c κs = search needs
 
 returns-3 : tie.Need-returns-3
 returns-3 c =
@@ -60,15 +45,6 @@ returns-4 c =
 
 pub simulate-spec : {M : Type 1} → statement M
 simulate-spec =
-    tie.close
-    (tie.spec
-    check-parts-requires
-    not-run-requires
-    returns
-    not-run-requires-2
-    returns-2
-    first-outside-requires
-    not-run-requires-3
-    returns-3
-    run-requires
-    returns-4)
+    tie.close (tie.spec (λ c κs. search needs) (λ c κs. search needs) returns (λ c κs. search needs)
+    (λ c. c .not-run2 .ensures ∙ says-17 _ _ (checked (c .before .before)) _ (c .before .if2 .taken))
+    first-outside-requires (λ c κs. search needs) returns-3 run-requires returns-4)

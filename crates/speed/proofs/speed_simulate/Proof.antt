@@ -5,9 +5,6 @@ use Rattle.simulation.specs.declared.Simulation.{Simulation}
 use Rattle.speed.proofs.speed_simulate.Statement.{statement}
 use Rattle.speed.proofs.speed_simulate.Tie as tie
 
-simulate-requires : tie.Need-simulate-requires
-simulate-requires c κs = search needs
-
 returns : tie.Need-returns
 returns c =
     let e = c .before .before .simulate .ensures in
@@ -18,4 +15,4 @@ returns c =
     }
 
 pub speed-simulate-spec : {M : Type 1} → statement M
-speed-simulate-spec = tie.close (tie.spec simulate-requires returns)
+speed-simulate-spec = tie.close (tie.spec (λ c κs. search needs) returns)

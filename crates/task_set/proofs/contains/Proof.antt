@@ -7,15 +7,9 @@ use Rattle.task_set.proofs.Members.{has-past}
 use Rattle.task_set.proofs.contains.Statement.{statement}
 use Rattle.task_set.proofs.contains.Tie as tie
 
-returns : tie.Need-returns
-returns c = sym (has-past 64 _ (c .before .fits .s .fits) (c .if1 .taken))
-
-shr-result : tie.Need-shr-result
-shr-result c = search needs
-
 returns-2 : tie.Need-returns-2
 unfolding has
 returns-2 c = rw (and-mask _ 1)
 
 pub contains-spec : {M : Type 1} → statement M
-contains-spec = tie.close (tie.spec returns shr-result returns-2)
+contains-spec = tie.close (tie.spec (λ c. sym (has-past 64 _ (c .before .fits .s .fits) (c .if1 .taken))) (λ c. search needs) returns-2)

@@ -13,15 +13,9 @@ returns : tie.Need-returns
 unfolding below
 returns c = sym (mod-eq-of-lt (lt-of-lt-of-le (c .before .fits .s .fits) (pow-mono (c .if1 .taken))))
 
-shl-result : tie.Need-shl-result
-shl-result c = search needs
-
-sub-result : tie.Need-sub-result
-sub-result c = rw (shifted-one _ (c .if1 .left)) (pow-pos _)
-
 returns-2 : tie.Need-returns-2
 unfolding below
 returns-2 c = rw (shifted-one _ (c .if1 .left)) (and-mask _ _)
 
 pub members-below-spec : {M : Type 1} → statement M
-members-below-spec = tie.close (tie.spec returns shl-result sub-result returns-2)
+members-below-spec = tie.close (tie.spec returns (λ c. search needs) (λ c. rw (shifted-one _ (c .if1 .left)) (pow-pos _)) returns-2)

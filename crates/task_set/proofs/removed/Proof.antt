@@ -10,12 +10,9 @@ returns : tie.Need-returns
 unfolding remove
 returns c = simp (le-ltb _ _ (c .if1 .taken))
 
-shl-result : tie.Need-shl-result
-shl-result c = search needs
-
 returns-2 : tie.Need-returns-2
 unfolding remove without
 returns-2 c = rw (lt-ltb _ _ (c .if1 .left), shifted-one _ (c .if1 .left))
 
 pub removed-spec : {M : Type 1} → statement M
-removed-spec = tie.close (tie.spec returns shl-result returns-2)
+removed-spec = tie.close (tie.spec returns (λ c. search needs) returns-2)

@@ -4,18 +4,6 @@ use Rattle.timetable.proofs.Ran.{simulated-few, simulated-outcome}
 use Rattle.timetable.proofs.timetable.Statement.{statement}
 use Rattle.timetable.proofs.timetable.Tie as tie
 
-simulate-requires : tie.Need-simulate-requires
-simulate-requires c κs = search needs
-
-wide-requires : tie.Need-wide-requires
-wide-requires c κs = search needs
-
-write-run-requires : tie.Need-write-run-requires
-write-run-requires c κs = simulated-few _ _ _ (c .before .before .before .before .before .before .before .before .simulate .ensures)
-
-same-length : tie.Need-same-length
-same-length c = search needs
-
 returns : tie.Need-returns
 returns c =
     let w = c .before .before .before .before .before .before .before .before .before .before in
@@ -23,4 +11,6 @@ returns c =
 
 pub timetable-spec : {M : Type 1} → statement M
 timetable-spec =
-    tie.close (tie.spec simulate-requires wide-requires write-run-requires same-length returns)
+    tie.close (tie.spec (λ c κs. search needs) (λ c κs. search needs)
+    (λ c κs. simulated-few _ _ _ (c .before .before .before .before .before .before .before .before .simulate .ensures))
+    (λ c. search needs) returns)

@@ -4,18 +4,6 @@ use Rattle.timetable.proofs.Ran.{worst-few, worst-outcome}
 use Rattle.timetable.proofs.worst_timetable.Statement.{statement}
 use Rattle.timetable.proofs.worst_timetable.Tie as tie
 
-bound-requires : tie.Need-bound-requires
-bound-requires c κs = search needs
-
-wide-requires : tie.Need-wide-requires
-wide-requires c κs = search needs
-
-write-run-requires : tie.Need-write-run-requires
-write-run-requires c κs = worst-few _ _ (c .before .before .before .before .before .before .before .before .bound .ensures .0)
-
-same-length : tie.Need-same-length
-same-length c = search needs
-
 returns : tie.Need-returns
 returns c =
     let w = c .before .before .before .before .before .before .before .before .before .before in
@@ -23,4 +11,6 @@ returns c =
 
 pub worst-timetable-spec : {M : Type 1} → statement M
 worst-timetable-spec =
-    tie.close (tie.spec bound-requires wide-requires write-run-requires same-length returns)
+    tie.close (tie.spec (λ c κs. search needs) (λ c κs. search needs)
+    (λ c κs. worst-few _ _ (c .before .before .before .before .before .before .before .before .bound .ensures .0))
+    (λ c. search needs) returns)

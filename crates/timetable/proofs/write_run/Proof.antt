@@ -11,21 +11,6 @@ room : (c : tie.Else2) → let a = c .before .before .before .before .args in
     Room (a .buffer .now) 0 (textBy (a .order .now) (a .chosen .now) (a .starts .now) (a .finishes .now) (a .len) (a .response))
 room c = record { fits = omega (arith, c .before .text-length .ensures) }
 
-returns : tie.Need-returns
-returns c = refuses _ _ _ (c .if1 .taken)
-
-text-length-requires : tie.Need-text-length-requires
-text-length-requires c κs = c .before .before .pre (c .if1 .left)
-
-returns-2 : tie.Need-returns-2
-returns-2 c = too-short _ _ _ (c .before .before .if1 .left) (c .before .text-length .ensures) (c .if2 .taken)
-
-put-text-requires : tie.Need-put-text-requires
-put-text-requires c κs = (c .before .before .before .before .before .pre (c .before .before .before .if1 .left), room (c .before))
-
-same-length : tie.Need-same-length
-same-length c = put-length (c .before .before .put-text .ensures)
-
 returns-3 : tie.Need-returns-3
 returns-3 c =
     let e = c .before .before .before .before in
@@ -33,5 +18,7 @@ returns-3 c =
 
 pub write-run-spec : {M : Type 1} → statement M
 write-run-spec =
-    tie.close
-    (tie.spec returns text-length-requires returns-2 put-text-requires same-length returns-3)
+    tie.close (tie.spec (λ c. refuses _ _ _ (c .if1 .taken)) (λ c κs. c .before .before .pre (c .if1 .left))
+    (λ c. too-short _ _ _ (c .before .before .if1 .left) (c .before .text-length .ensures) (c .if2 .taken))
+    (λ c κs. (c .before .before .before .before .before .pre (c .before .before .before .if1 .left), room (c .before)))
+    (λ c. put-length (c .before .before .put-text .ensures)) returns-3)

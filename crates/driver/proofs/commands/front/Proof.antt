@@ -5,14 +5,5 @@ use borrow.Author.Needs.{needs}
 use Rattle.driver.proofs.commands.front.Statement.{statement}
 use Rattle.driver.proofs.commands.front.Tie as tie
 
-slice-aggregate-result : tie.Need-slice-aggregate-result
-slice-aggregate-result c = simp length-take (omega arith)
-
-returns : tie.Need-returns
-returns c = search needs
-
-returns-2 : tie.Need-returns-2
-returns-2 c = search needs
-
 pub front-spec : {M : Type 1} → statement M
-front-spec = tie.close (tie.spec slice-aggregate-result returns returns-2)
+front-spec = tie.close (tie.spec (λ c. simp length-take (omega arith)) (λ c. search needs) (λ c. search needs))

@@ -29,21 +29,6 @@ taken c = sym (ap (λ (v : Verdict). v .number) (c .before .before .judge .ensur
 sound : (c : tie.Else1) → isSound (begin c .args .self) ≡ true
 sound c = accepted-sound _ _ (taken c)
 
-judge-requires : tie.Need-judge-requires
-judge-requires c κs = search needs
-
-returns : tie.Need-returns
-returns c = tick-stays _ _ (c .before .before .judge .ensures .verdict) (c .if1 .taken)
-
-add-instant : tie.Need-add-instant
-add-instant c = omega (arith, sound-instant _ (sound (c .before .before .before .before .before)))
-
-difference-requires : tie.Need-difference-requires
-difference-requires c κs = search needs
-
-stamped-requires : tie.Need-stamped-requires
-stamped-requires c κs = search needs
-
 walk-on-requires : tie.Need-walk-on-requires
 walk-on-requires c κs =
     let e = c .before .before .before .before .before .before .before .before .before in
@@ -58,12 +43,7 @@ returns-2 c =
 
 pub tick-spec : {M : Type 1} → statement M
 tick-spec =
-    tie.close
-    (tie.spec
-    judge-requires
-    returns
-    add-instant
-    difference-requires
-    stamped-requires
-    walk-on-requires
-    returns-2)
+    tie.close (tie.spec (λ c κs. search needs)
+    (λ c. tick-stays _ _ (c .before .before .judge .ensures .verdict) (c .if1 .taken))
+    (λ c. omega (arith, sound-instant _ (sound (c .before .before .before .before .before)))) (λ c κs. search needs)
+    (λ c κs. search needs) walk-on-requires returns-2)

@@ -10,27 +10,6 @@ use Rattle.live.proofs.list.tick_each.Reads as tick-each-reads
 use Rattle.live.proofs.no_state.Reads as no-state-reads
 use Rattle.live.proofs.start.Reads as start-reads
 
-no-state-requires : tie.Need-no-state-requires
-no-state-requires c κs = search needs
-
-returns : tie.Need-returns
-returns c = replays-short _ _ _ _ _ _ (not-true _ (c .before .if1 .taken)) _ (c .no-state .ensures)
-
-start-requires : tie.Need-start-requires
-start-requires c κs = search needs
-
-tick-each-requires : tie.Need-tick-each-requires
-tick-each-requires c κs = rooms _ _ _ _ (not-false _ (c .before .before .before .before .if1 .left))
-
-same-length : tie.Need-same-length
-same-length c = search needs
-
-same-length-2 : tie.Need-same-length-2
-same-length-2 c = search needs
-
-same-length-3 : tie.Need-same-length-3
-same-length-3 c = search needs
-
 returns-2 : tie.Need-returns-2
 returns-2 c =
     let t = c .before .before .before .before .before .before in
@@ -39,13 +18,7 @@ returns-2 c =
 
 pub replay-spec : {M : Type 1} → statement M
 replay-spec =
-    tie.close
-    (tie.spec
-    no-state-requires
-    returns
-    start-requires
-    tick-each-requires
-    same-length
-    same-length-2
-    same-length-3
-    returns-2)
+    tie.close (tie.spec (λ c κs. search needs)
+    (λ c. replays-short _ _ _ _ _ _ (not-true _ (c .before .if1 .taken)) _ (c .no-state .ensures))
+    (λ c κs. search needs) (λ c κs. rooms _ _ _ _ (not-false _ (c .before .before .before .before .if1 .left)))
+    (λ c. search needs) (λ c. search needs) (λ c. search needs) returns-2)

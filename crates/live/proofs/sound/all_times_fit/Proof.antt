@@ -22,33 +22,6 @@ loop-holds : tie.Need-loop-holds Inv-loop μ-loop
 unfolding all
 loop-holds c = upto-none refl
 
-contains-requires : tie.Need-contains-requires Inv-loop μ-loop
-contains-requires c κs = search needs
-
-contains-requires-2 : tie.Need-contains-requires-2 Inv-loop μ-loop
-contains-requires-2 c κs = search needs
-
-mul-times-fit : tie.Need-mul-times-fit Inv-loop μ-loop
-mul-times-fit c = search needs
-
-element-copy-out-times-fit : tie.Need-element-copy-out-times-fit Inv-loop μ-loop
-element-copy-out-times-fit c = search needs
-
-mul-times-fit-2 : tie.Need-mul-times-fit-2 Inv-loop μ-loop
-mul-times-fit-2 c = search needs
-
-element-copy-out-times-fit-2 : tie.Need-element-copy-out-times-fit-2 Inv-loop μ-loop
-element-copy-out-times-fit-2 c = search needs
-
-times-fit-requires : tie.Need-times-fit-requires Inv-loop μ-loop
-times-fit-requires c κs = search needs
-
-add-t : tie.Need-add-t Inv-loop μ-loop
-add-t c = search needs
-
-loop-less : tie.Need-loop-less Inv-loop μ-loop
-loop-less c = search needs
-
 loop-again : tie.Need-loop-again Inv-loop μ-loop
 unfolding allTimesFit
 loop-again c =
@@ -58,24 +31,8 @@ loop-again c =
     (rw (c .before .before .before .before .contains .ensures, c .before .before .before .contains2 .ensures) at (c .times-fit .ensures))
     ∙ sym (all-next _ _))
 
-returns : tie.Need-returns Inv-loop μ-loop
-returns c = upto-end (c .before .loop .inv) (c .loop-test .left)
-
 pub all-times-fit-spec : {M : Type 1} → statement M
 all-times-fit-spec =
-    tie.close
-    (tie.spec
-    Inv-loop
-    μ-loop
-    loop-holds
-    contains-requires
-    contains-requires-2
-    mul-times-fit
-    element-copy-out-times-fit
-    mul-times-fit-2
-    element-copy-out-times-fit-2
-    times-fit-requires
-    add-t
-    loop-less
-    loop-again
-    returns)
+    tie.close (tie.spec Inv-loop μ-loop loop-holds (λ c κs. search needs) (λ c κs. search needs) (λ c. search needs)
+    (λ c. search needs) (λ c. search needs) (λ c. search needs) (λ c κs. search needs) (λ c. search needs)
+    (λ c. search needs) loop-again (λ c. upto-end (c .before .loop .inv) (c .loop-test .left)))

@@ -21,49 +21,14 @@ loop-holds : tie.Need-loop-holds Inv-loop μ-loop
 unfolding all
 loop-holds c = upto-none refl
 
-mul-member-count : tie.Need-mul-member-count Inv-loop μ-loop
-mul-member-count c = search needs
-
-element-copy-out-member-count : tie.Need-element-copy-out-member-count Inv-loop μ-loop
-element-copy-out-member-count c = search needs
-
-member-count-requires : tie.Need-member-count-requires Inv-loop μ-loop
-member-count-requires c κs = search needs
-
-mul-ok : tie.Need-mul-ok Inv-loop μ-loop
-mul-ok c = search needs
-
-element-copy-out-ok : tie.Need-element-copy-out-ok Inv-loop μ-loop
-element-copy-out-ok c = search needs
-
-add-k : tie.Need-add-k Inv-loop μ-loop
-add-k c = search needs
-
-loop-less : tie.Need-loop-less Inv-loop μ-loop
-loop-less c = search needs
-
 loop-again : tie.Need-loop-again Inv-loop μ-loop
 unfolding enoughFor
 loop-again c =
     upto-more (c .before .before .before .loop-test .taken)
     (ap₂ _&&_ (c .before .before .before .before .loop .inv .is) (rw (c .before .member-count .ensures)) ∙ sym (all-next _ _))
 
-returns : tie.Need-returns Inv-loop μ-loop
-returns c = upto-end (c .before .loop .inv) (c .loop-test .left)
-
 pub enough-units-spec : {M : Type 1} → statement M
 enough-units-spec =
-    tie.close
-    (tie.spec
-    Inv-loop
-    μ-loop
-    loop-holds
-    mul-member-count
-    element-copy-out-member-count
-    member-count-requires
-    mul-ok
-    element-copy-out-ok
-    add-k
-    loop-less
-    loop-again
-    returns)
+    tie.close (tie.spec Inv-loop μ-loop loop-holds (λ c. search needs) (λ c. search needs) (λ c κs. search needs)
+    (λ c. search needs) (λ c. search needs) (λ c. search needs) (λ c. search needs) loop-again
+    (λ c. upto-end (c .before .loop .inv) (c .loop-test .left)))

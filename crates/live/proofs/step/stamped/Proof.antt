@@ -18,24 +18,6 @@ Inv-loop report instant stamps₀ left₀ stamps left =
 abbrev μ-loop : tie.MeasureT-loop
 μ-loop report instant stamps₀ left₀ stamps left = size left
 
-loop-holds : tie.Need-loop-holds Inv-loop μ-loop
-loop-holds c = (c .fits .report .fits, record { long = search needs; makes = refl })
-
-lowest-member-requires : tie.Need-lowest-member-requires Inv-loop μ-loop
-lowest-member-requires c κs = search needs
-
-cast-t : tie.Need-cast-t Inv-loop μ-loop
-cast-t c = search needs
-
-mul-stamps : tie.Need-mul-stamps Inv-loop μ-loop
-mul-stamps c = search needs
-
-array-write-stamps : tie.Need-array-write-stamps Inv-loop μ-loop
-array-write-stamps c = rw (c .lowest-member .ensures) (lowest-low _ (c .before .before .loop .inv .0) (c .before .loop-test .taken))
-
-removed-requires : tie.Need-removed-requires Inv-loop μ-loop
-removed-requires c κs = search needs
-
 loop-less : tie.Need-loop-less Inv-loop μ-loop
 loop-less c =
     rw (c .removed .ensures, c .before .lowest-member .ensures)
@@ -48,21 +30,9 @@ loop-again c =
       rw (c .removed .ensures, c .before .lowest-member .ensures) (stamped-more _ (l .0) (c .before .before .loop-test .taken) _ (l .1)),
     )
 
-returns : tie.Need-returns Inv-loop μ-loop
-returns c = stamped-all _ (c .loop-test .left) (c .before .loop .inv .1)
-
 pub stamped-spec : {M : Type 1} → statement M
 stamped-spec =
-    tie.close
-    (tie.spec
-    Inv-loop
-    μ-loop
-    loop-holds
-    lowest-member-requires
-    cast-t
-    mul-stamps
-    array-write-stamps
-    removed-requires
-    loop-less
-    loop-again
-    returns)
+    tie.close (tie.spec Inv-loop μ-loop (λ c. (c .fits .report .fits, record { long = search needs; makes = refl }))
+    (λ c κs. search needs) (λ c. search needs) (λ c. search needs)
+    (λ c. rw (c .lowest-member .ensures) (lowest-low _ (c .before .before .loop .inv .0) (c .before .loop-test .taken)))
+    (λ c κs. search needs) loop-less loop-again (λ c. stamped-all _ (c .loop-test .left) (c .before .loop .inv .1)))

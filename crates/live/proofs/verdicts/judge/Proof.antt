@@ -43,32 +43,11 @@ sound-is c =
     let e = from-over o .mark-positions .ensures in
     c .is-sound .ensures ∙ sound-by _ (passed (first-two c)) (ap (λ (m : Marks). m .users) e) e (o .is-over .ensures)
 
-check-parts-requires : tie.Need-check-parts-requires
-check-parts-requires c κs = search needs
-
-unsound-requires : tie.Need-unsound-requires
-unsound-requires c κs = search needs
-
 returns : tie.Need-returns
 returns c = judged-unsound _ _ (unsound-first _ (c .before .before .before .check-parts .ensures) (c .before .if1 .taken)) (c .unsound .ensures)
 
-mark-positions-requires : tie.Need-mark-positions-requires
-mark-positions-requires c κs = positions-fit _ (passed (c .before .before .before .before .before .before .before))
-
-is-over-requires : tie.Need-is-over-requires
-is-over-requires c κs = tasks-low _ (passed (from-marks (c .before)))
-
-is-sound-requires : tie.Need-is-sound-requires
-is-sound-requires c κs = search needs
-
-unsound-requires-2 : tie.Need-unsound-requires-2
-unsound-requires-2 c κs = search needs
-
 returns-2 : tie.Need-returns-2
 returns-2 c = judged-unsound _ _ (sym (sound-is (c .before .before)) ∙ not-true _ (c .before .if2 .taken)) (c .unsound2 .ensures)
-
-report-verdict-requires : tie.Need-report-verdict-requires
-report-verdict-requires c κs = search needs
 
 returns-3 : tie.Need-returns-3
 returns-3 c =
@@ -80,15 +59,7 @@ returns-3 c =
 
 pub judge-spec : {M : Type 1} → statement M
 judge-spec =
-    tie.close
-    (tie.spec
-    check-parts-requires
-    unsound-requires
-    returns
-    mark-positions-requires
-    is-over-requires
-    is-sound-requires
-    unsound-requires-2
-    returns-2
-    report-verdict-requires
-    returns-3)
+    tie.close (tie.spec (λ c κs. search needs) (λ c κs. search needs) returns
+    (λ c κs. positions-fit _ (passed (c .before .before .before .before .before .before .before)))
+    (λ c κs. tasks-low _ (passed (from-marks (c .before)))) (λ c κs. search needs) (λ c κs. search needs) returns-2
+    (λ c κs. search needs) returns-3)

@@ -5,21 +5,9 @@ use Rattle.live.specs.Steps.{unlessEmpty, verdictBy}
 use Rattle.live.proofs.verdicts.report_verdict.Statement.{statement}
 use Rattle.live.proofs.verdicts.report_verdict.Tie as tie
 
-refused-requires : tie.Need-refused-requires
-refused-requires c κs = search needs
-
 returns : tie.Need-returns
 unfolding unlessEmpty verdictBy
 returns c = rw (c .before .if1 .taken) (c .refused .ensures)
-
-difference-requires : tie.Need-difference-requires
-difference-requires c κs = search needs
-
-difference-requires-2 : tie.Need-difference-requires-2
-difference-requires-2 c κs = search needs
-
-refused-at-requires : tie.Need-refused-at-requires
-refused-at-requires c κs = search needs
 
 returns-2 : tie.Need-returns-2
 unfolding unlessEmpty verdictBy
@@ -30,12 +18,6 @@ returns-2 c =
       ← c .before .before .difference2 .ensures,
       ne-eqb _ 0 (c .before .if2 .taken),
     ) (c .refused-at .ensures)
-
-difference-requires-3 : tie.Need-difference-requires-3
-difference-requires-3 c κs = search needs
-
-refused-at-requires-2 : tie.Need-refused-at-requires-2
-refused-at-requires-2 c κs = search needs
 
 returns-3 : tie.Need-returns-3
 unfolding unlessEmpty verdictBy
@@ -48,12 +30,6 @@ returns-3 c =
       ← c .before .before .difference3 .ensures,
       ne-eqb _ 0 (c .before .if3 .taken),
     ) (c .refused-at2 .ensures)
-
-difference-requires-4 : tie.Need-difference-requires-4
-difference-requires-4 c κs = search needs
-
-refused-at-requires-3 : tie.Need-refused-at-requires-3
-refused-at-requires-3 c κs = search needs
 
 returns-4 : tie.Need-returns-4
 unfolding unlessEmpty verdictBy
@@ -68,9 +44,6 @@ returns-4 c =
       ← c .before .before .difference4 .ensures,
       ne-eqb _ 0 (c .before .if4 .taken),
     ) (c .refused-at3 .ensures)
-
-refused-requires-2 : tie.Need-refused-requires-2
-refused-requires-2 c κs = search needs
 
 returns-5 : tie.Need-returns-5
 unfolding unlessEmpty verdictBy
@@ -88,19 +61,6 @@ returns-5 c =
 
 pub report-verdict-spec : {M : Type 1} → statement M
 report-verdict-spec =
-    tie.close
-    (tie.spec
-    refused-requires
-    returns
-    difference-requires
-    difference-requires-2
-    refused-at-requires
-    returns-2
-    difference-requires-3
-    refused-at-requires-2
-    returns-3
-    difference-requires-4
-    refused-at-requires-3
-    returns-4
-    refused-requires-2
-    returns-5)
+    tie.close (tie.spec (λ c κs. search needs) returns (λ c κs. search needs) (λ c κs. search needs)
+    (λ c κs. search needs) returns-2 (λ c κs. search needs) (λ c κs. search needs) returns-3 (λ c κs. search needs)
+    (λ c κs. search needs) returns-4 (λ c κs. search needs) returns-5)

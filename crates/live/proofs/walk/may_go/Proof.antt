@@ -8,15 +8,9 @@ use Rattle.live.specs.Steps.{mayGo}
 use Rattle.live.proofs.walk.may_go.Statement.{statement}
 use Rattle.live.proofs.walk.may_go.Tie as tie
 
-is-subset-requires : tie.Need-is-subset-requires
-is-subset-requires c κs = search needs
-
-member-count-requires : tie.Need-member-count-requires
-member-count-requires c κs = search needs
-
 returns : tie.Need-returns
 unfolding mayGo
 returns c = ap₂ (λ (b : Bool) (n : ℕ). b && ltb n (c .before .before .args .units)) (c .before .is-subset .ensures) (c .member-count .ensures)
 
 pub may-go-spec : {M : Type 1} → statement M
-may-go-spec = tie.close (tie.spec is-subset-requires member-count-requires returns)
+may-go-spec = tie.close (tie.spec (λ c κs. search needs) (λ c κs. search needs) returns)

@@ -17,24 +17,6 @@ Inv-loop units predecessors order chosen users len instant finished n₀ running
 abbrev μ-loop : tie.MeasureT-loop
 μ-loop units predecessors order chosen users len instant finished n₀ running₀ fresh₀ starts₀ n running fresh starts = len - n
 
-loop-holds : tie.Need-loop-holds Inv-loop μ-loop
-loop-holds c = refl
-
-mul-t : tie.Need-mul-t Inv-loop μ-loop
-mul-t c = search needs
-
-element-copy-out-t : tie.Need-element-copy-out-t Inv-loop μ-loop
-element-copy-out-t c = search needs
-
-mul-k : tie.Need-mul-k Inv-loop μ-loop
-mul-k c = search needs
-
-element-copy-out-k : tie.Need-element-copy-out-k Inv-loop μ-loop
-element-copy-out-k c = search needs
-
-predecessors-of-requires : tie.Need-predecessors-of-requires Inv-loop μ-loop
-predecessors-of-requires c κs = search needs
-
 mul-may-go : tie.Need-mul-may-go Inv-loop μ-loop
 mul-may-go c =
     let l = c .before .before .before .before .before .before .pre .1 (c .before .before .before .before .loop .n)
@@ -55,20 +37,11 @@ element-copy-out-may-go-2 c =
     let l = c .before .before .before .before .before .before .before .pre .1 (c .before .before .before .before .before .loop .n)
     (c .before .before .before .before .loop-test .taken) .1 in search needs
 
-may-go-requires : tie.Need-may-go-requires Inv-loop μ-loop
-may-go-requires c κs = search needs
-
 returns : tie.Need-returns Inv-loop μ-loop
 returns c =
     walk-stops _ _ _ _ _ _ _ _ _ (c .before .before .before .before .before .before .before .loop-test .taken)
     (c .before .before .before .before .predecessors-of .ensures) (c .before .may-go .ensures) (c .if1 .taken)
     ∙ c .before .before .before .before .before .before .before .before .loop .inv
-
-inserted-requires : tie.Need-inserted-requires Inv-loop μ-loop
-inserted-requires c κs = search needs
-
-inserted-requires-2 : tie.Need-inserted-requires-2 Inv-loop μ-loop
-inserted-requires-2 c κs = search needs
 
 mul-starts : tie.Need-mul-starts Inv-loop μ-loop
 mul-starts c =
@@ -82,12 +55,6 @@ array-write-starts c =
     (c .before .before .before .before .before .before .before .before .before .before .loop .n)
     (c .before .before .before .before .before .before .before .before .before .loop-test .taken) .0 in search needs
 
-add-n : tie.Need-add-n Inv-loop μ-loop
-add-n c = search needs
-
-loop-less : tie.Need-loop-less Inv-loop μ-loop
-loop-less c = search needs
-
 loop-again : tie.Need-loop-again Inv-loop μ-loop
 loop-again c =
     walk-goes _ _ _ _ _ _ _ _ _ (c .before .before .before .before .before .before .before .before .before .loop-test .taken)
@@ -95,32 +62,10 @@ loop-again c =
     (c .before .before .if1 .left) (c .before .inserted .ensures) (c .inserted2 .ensures)
     ∙ c .before .before .before .before .before .before .before .before .before .before .loop .inv
 
-returns-2 : tie.Need-returns-2 Inv-loop μ-loop
-returns-2 c = walk-ends _ _ _ _ _ _ _ _ _ (c .loop-test .left) ∙ c .before .loop .inv
-
 pub walk-spec : {M : Type 1} → statement M
 walk-spec =
-    tie.close
-    (tie.spec
-    Inv-loop
-    μ-loop
-    loop-holds
-    mul-t
-    element-copy-out-t
-    mul-k
-    element-copy-out-k
-    predecessors-of-requires
-    mul-may-go
-    element-copy-out-may-go
-    mul-may-go-2
-    element-copy-out-may-go-2
-    may-go-requires
-    returns
-    inserted-requires
-    inserted-requires-2
-    mul-starts
-    array-write-starts
-    add-n
-    loop-less
-    loop-again
-    returns-2)
+    tie.close (tie.spec Inv-loop μ-loop (λ c. refl) (λ c. search needs) (λ c. search needs) (λ c. search needs)
+    (λ c. search needs) (λ c κs. search needs) mul-may-go element-copy-out-may-go mul-may-go-2 element-copy-out-may-go-2
+    (λ c κs. search needs) returns (λ c κs. search needs) (λ c κs. search needs) mul-starts array-write-starts
+    (λ c. search needs) (λ c. search needs) loop-again
+    (λ c. walk-ends _ _ _ _ _ _ _ _ _ (c .loop-test .left) ∙ c .before .loop .inv))

@@ -25,26 +25,8 @@ kept c = sym (c .before .plan-ok .ensures) ∙ not-false _ (c .if1 .left)
 short : (c : tie.Else2) → c .before .before .before .args .len ≤ mostTasks
 short c = omega (arith, few-tasks _ (kept (c .before)))
 
-plan-ok-requires : tie.Need-plan-ok-requires
-plan-ok-requires c κs = search needs
-
-refused-requires : tie.Need-refused-requires
-refused-requires c κs = search needs
-
 returns : tie.Need-returns
 returns c = c .refused .ensures ∙ sym (says-8 _ _ (sym (c .before .before .plan-ok .ensures) ∙ not-true _ (c .before .if1 .taken)))
-
-refused-requires-2 : tie.Need-refused-requires-2
-refused-requires-2 c κs = search needs
-
-returns-2 : tie.Need-returns-2
-returns-2 c = c .refused2 .ensures ∙ sym (says-9-length _ _ (kept (c .before .before)) (c .before .if2 .taken))
-
-first-misplaced-requires : tie.Need-first-misplaced-requires
-first-misplaced-requires c κs = (short c, few-tasks _ (kept (c .before)))
-
-refused-requires-3 : tie.Need-refused-requires-3
-refused-requires-3 c κs = search needs
 
 returns-3 : tie.Need-returns-3
 returns-3 c =
@@ -52,24 +34,12 @@ returns-3 c =
     ∙ sym (says-9 _ _ (kept (c .before .before .before .before)) (c .before .before .before .if2 .left)
     (c .before .before .first-misplaced .ensures) (c .before .if3 .taken))
 
-first-unusable-requires : tie.Need-first-unusable-requires
-first-unusable-requires c κs = short (c .before .before)
-
-refused-requires-4 : tie.Need-refused-requires-4
-refused-requires-4 c κs = search needs
-
 returns-4 : tie.Need-returns-4
 returns-4 c =
     let e = c .before .before .before in
     c .refused4 .ensures
     ∙ sym (says-10 _ _ (kept (e .before .before .before)) (e .before .before .if2 .left)
     (e .before .first-misplaced .ensures) (e .if3 .left) (c .before .before .first-unusable .ensures) (c .before .if4 .taken))
-
-first-unmet-requires : tie.Need-first-unmet-requires
-first-unmet-requires c κs = short (c .before .before .before .before)
-
-refused-requires-5 : tie.Need-refused-requires-5
-refused-requires-5 c κs = search needs
 
 returns-5 : tie.Need-returns-5
 returns-5 c =
@@ -80,9 +50,6 @@ returns-5 c =
     (e .before .first-misplaced .ensures) (e .if3 .left)
     (u .before .first-unusable .ensures) (u .if4 .left)
     (c .before .before .first-unmet .ensures) (c .before .if5 .taken))
-
-refused-requires-6 : tie.Need-refused-requires-6
-refused-requires-6 c κs = search needs
 
 returns-6 : tie.Need-returns-6
 returns-6 c =
@@ -96,21 +63,9 @@ returns-6 c =
 
 pub check-parts-spec : {M : Type 1} → statement M
 check-parts-spec =
-    tie.close
-    (tie.spec
-    plan-ok-requires
-    refused-requires
-    returns
-    refused-requires-2
-    returns-2
-    first-misplaced-requires
-    refused-requires-3
-    returns-3
-    first-unusable-requires
-    refused-requires-4
-    returns-4
-    first-unmet-requires
-    refused-requires-5
-    returns-5
-    refused-requires-6
+    tie.close (tie.spec (λ c κs. search needs) (λ c κs. search needs) returns (λ c κs. search needs)
+    (λ c. c .refused2 .ensures ∙ sym (says-9-length _ _ (kept (c .before .before)) (c .before .if2 .taken)))
+    (λ c κs. (short c, few-tasks _ (kept (c .before)))) (λ c κs. search needs) returns-3
+    (λ c κs. short (c .before .before)) (λ c κs. search needs) returns-4
+    (λ c κs. short (c .before .before .before .before)) (λ c κs. search needs) returns-5 (λ c κs. search needs)
     returns-6)

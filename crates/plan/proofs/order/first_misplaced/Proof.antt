@@ -14,31 +14,10 @@ Inv-loop tasks order len seen₀ i₀ seen i = Searched len (misplaced tasks ord
 abbrev μ-loop : tie.MeasureT-loop
 μ-loop tasks order len seen₀ i₀ seen i = len - i
 
-loop-holds : tie.Need-loop-holds Inv-loop μ-loop
-loop-holds c = (searched-none, holds-none)
-
-mul-t : tie.Need-mul-t Inv-loop μ-loop
-mul-t c = search needs
-
-element-copy-out-t : tie.Need-element-copy-out-t Inv-loop μ-loop
-element-copy-out-t c = search needs
-
-contains-requires : tie.Need-contains-requires Inv-loop μ-loop
-contains-requires c κs = search needs
-
 returns : tie.Need-returns Inv-loop μ-loop
 returns c =
     let l = c .before .before .before .before in
     search-found (l .loop .inv .0) (sym (misplaced-by (l .loop .inv .1) (l .before .pre .1) (c .before .contains .ensures)) ∙ c .if1 .taken)
-
-inserted-requires : tie.Need-inserted-requires Inv-loop μ-loop
-inserted-requires c κs = search needs
-
-add-i : tie.Need-add-i Inv-loop μ-loop
-add-i c = search needs
-
-loop-less : tie.Need-loop-less Inv-loop μ-loop
-loop-less c = search needs
 
 loop-again : tie.Need-loop-again Inv-loop μ-loop
 loop-again c =
@@ -48,22 +27,8 @@ loop-again c =
       rw (c .inserted .ensures) (holds-more (l .loop .inv .1)),
     )
 
-returns-2 : tie.Need-returns-2 Inv-loop μ-loop
-returns-2 c = search-ended (c .before .loop .inv .0) (c .loop-test .left)
-
 pub first-misplaced-spec : {M : Type 1} → statement M
 first-misplaced-spec =
-    tie.close
-    (tie.spec
-    Inv-loop
-    μ-loop
-    loop-holds
-    mul-t
-    element-copy-out-t
-    contains-requires
-    returns
-    inserted-requires
-    add-i
-    loop-less
-    loop-again
-    returns-2)
+    tie.close (tie.spec Inv-loop μ-loop (λ c. (searched-none, holds-none)) (λ c. search needs) (λ c. search needs)
+    (λ c κs. search needs) returns (λ c κs. search needs) (λ c. search needs) (λ c. search needs) loop-again
+    (λ c. search-ended (c .before .loop .inv .0) (c .loop-test .left)))

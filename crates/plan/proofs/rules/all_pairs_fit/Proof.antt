@@ -21,49 +21,14 @@ loop-holds : tie.Need-loop-holds Inv-loop μ-loop
 unfolding all
 loop-holds c = upto-none refl
 
-mul-pair-fits : tie.Need-mul-pair-fits Inv-loop μ-loop
-mul-pair-fits c = search needs
-
-element-copy-out-pair-fits : tie.Need-element-copy-out-pair-fits Inv-loop μ-loop
-element-copy-out-pair-fits c = search needs
-
-mul-pair-fits-2 : tie.Need-mul-pair-fits-2 Inv-loop μ-loop
-mul-pair-fits-2 c = search needs
-
-element-copy-out-pair-fits-2 : tie.Need-element-copy-out-pair-fits-2 Inv-loop μ-loop
-element-copy-out-pair-fits-2 c = search needs
-
-pair-fits-requires : tie.Need-pair-fits-requires Inv-loop μ-loop
-pair-fits-requires c κs = search needs
-
-add-i : tie.Need-add-i Inv-loop μ-loop
-add-i c = search needs
-
-loop-less : tie.Need-loop-less Inv-loop μ-loop
-loop-less c = search needs
-
 loop-again : tie.Need-loop-again Inv-loop μ-loop
 unfolding pairFitsAt
 loop-again c =
     upto-more (c .before .before .before .loop-test .taken)
     (ap₂ _&&_ (c .before .before .before .before .loop .inv .is) (c .pair-fits .ensures) ∙ sym (all-next _ _))
 
-returns : tie.Need-returns Inv-loop μ-loop
-returns c = upto-end (c .before .loop .inv) (c .loop-test .left)
-
 pub all-pairs-fit-spec : {M : Type 1} → statement M
 all-pairs-fit-spec =
-    tie.close
-    (tie.spec
-    Inv-loop
-    μ-loop
-    loop-holds
-    mul-pair-fits
-    element-copy-out-pair-fits
-    mul-pair-fits-2
-    element-copy-out-pair-fits-2
-    pair-fits-requires
-    add-i
-    loop-less
-    loop-again
-    returns)
+    tie.close (tie.spec Inv-loop μ-loop loop-holds (λ c. search needs) (λ c. search needs) (λ c. search needs)
+    (λ c. search needs) (λ c κs. search needs) (λ c. search needs) (λ c. search needs) loop-again
+    (λ c. upto-end (c .before .loop .inv) (c .loop-test .left)))

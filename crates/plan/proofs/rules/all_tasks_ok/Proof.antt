@@ -21,18 +21,6 @@ loop-holds : tie.Need-loop-holds Inv-loop μ-loop
 unfolding all
 loop-holds c = upto-none refl
 
-types-ok-requires : tie.Need-types-ok-requires Inv-loop μ-loop
-types-ok-requires c κs = search needs
-
-predecessors-ok-requires : tie.Need-predecessors-ok-requires Inv-loop μ-loop
-predecessors-ok-requires c κs = search needs
-
-add-t : tie.Need-add-t Inv-loop μ-loop
-add-t c = search needs
-
-loop-less : tie.Need-loop-less Inv-loop μ-loop
-loop-less c = search needs
-
 loop-again : tie.Need-loop-again Inv-loop μ-loop
 unfolding restOk
 loop-again c =
@@ -40,19 +28,7 @@ loop-again c =
     (ap₂ _&&_ (c .before .before .before .loop .inv .is) (ap₂ _&&_ (c .before .types-ok .ensures) (c .predecessors-ok .ensures))
     ∙ sym (all-next _ _))
 
-returns : tie.Need-returns Inv-loop μ-loop
-returns c = upto-end (c .before .loop .inv) (c .loop-test .left)
-
 pub all-tasks-ok-spec : {M : Type 1} → statement M
 all-tasks-ok-spec =
-    tie.close
-    (tie.spec
-    Inv-loop
-    μ-loop
-    loop-holds
-    types-ok-requires
-    predecessors-ok-requires
-    add-t
-    loop-less
-    loop-again
-    returns)
+    tie.close (tie.spec Inv-loop μ-loop loop-holds (λ c κs. search needs) (λ c κs. search needs) (λ c. search needs)
+    (λ c. search needs) loop-again (λ c. upto-end (c .before .loop .inv) (c .loop-test .left)))

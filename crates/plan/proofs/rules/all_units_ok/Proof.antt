@@ -20,22 +20,10 @@ loop-holds : tie.Need-loop-holds Inv-loop μ-loop
 unfolding all
 loop-holds c = upto-none refl
 
-units-ok-requires : tie.Need-units-ok-requires Inv-loop μ-loop
-units-ok-requires c κs = search needs
-
-add-k : tie.Need-add-k Inv-loop μ-loop
-add-k c = search needs
-
-loop-less : tie.Need-loop-less Inv-loop μ-loop
-loop-less c = search needs
-
 loop-again : tie.Need-loop-again Inv-loop μ-loop
 loop-again c = upto-more (c .before .loop-test .taken) (ap₂ _&&_ (c .before .before .loop .inv .is) (c .units-ok .ensures) ∙ sym (all-next _ _))
 
-returns : tie.Need-returns Inv-loop μ-loop
-returns c = upto-end (c .before .loop .inv) (c .loop-test .left)
-
 pub all-units-ok-spec : {M : Type 1} → statement M
 all-units-ok-spec =
-    tie.close
-    (tie.spec Inv-loop μ-loop loop-holds units-ok-requires add-k loop-less loop-again returns)
+    tie.close (tie.spec Inv-loop μ-loop loop-holds (λ c κs. search needs) (λ c. search needs) (λ c. search needs)
+    loop-again (λ c. upto-end (c .before .loop .inv) (c .loop-test .left)))

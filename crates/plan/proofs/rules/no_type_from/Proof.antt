@@ -20,18 +20,6 @@ Inv-loop wcet t n none₀ k₀ none k = Upto (λ (m : ℕ). all m (λ k. ltb k n
 abbrev μ-loop : tie.MeasureT-loop
 μ-loop wcet t n none₀ k₀ none k = mostTypes - k
 
-loop-holds : tie.Need-loop-holds Inv-loop μ-loop
-loop-holds c = (record { within = c .pre; is = sym (all-intro _ _ (λ k l. or-left _ (lt-ltb _ _ l))) }, search needs)
-
-is-usable-requires : tie.Need-is-usable-requires Inv-loop μ-loop
-is-usable-requires c κs = search needs
-
-add-k : tie.Need-add-k Inv-loop μ-loop
-add-k c = search needs
-
-loop-less : tie.Need-loop-less Inv-loop μ-loop
-loop-less c = search needs
-
 loop-again : tie.Need-loop-again Inv-loop μ-loop
 loop-again c =
     let l = c .before .before .loop .inv in
@@ -43,5 +31,6 @@ returns c = upto-end (c .before .loop .inv .0) (c .loop-test .left)
 
 pub no-type-from-spec : {M : Type 1} → statement M
 no-type-from-spec =
-    tie.close
-    (tie.spec Inv-loop μ-loop loop-holds is-usable-requires add-k loop-less loop-again returns)
+    tie.close (tie.spec Inv-loop μ-loop
+    (λ c. (record { within = c .pre; is = sym (all-intro _ _ (λ k l. or-left _ (lt-ltb _ _ l))) }, search needs))
+    (λ c κs. search needs) (λ c. search needs) (λ c. search needs) loop-again returns)

@@ -12,21 +12,9 @@ use Rattle.plan.proofs.rules.plan_ok.Tie as tie
 counted : (c : tie.Else1) → countsOk (c .before .before .args .types) (c .before .before .args .tasks) ≡ true
 counted c = sym (c .before .counts-ok .ensures) ∙ not-false _ (c .if1 .left)
 
-counts-ok-requires : tie.Need-counts-ok-requires
-counts-ok-requires c κs = search needs
-
 returns : tie.Need-returns
 unfolding planOk
 returns c = rw (sym (c .before .counts-ok .ensures) ∙ not-true _ (c .if1 .taken))
-
-all-units-ok-requires : tie.Need-all-units-ok-requires
-all-units-ok-requires c κs = search needs
-
-all-pairs-fit-requires : tie.Need-all-pairs-fit-requires
-all-pairs-fit-requires c κs = search needs
-
-all-tasks-ok-requires : tie.Need-all-tasks-ok-requires
-all-tasks-ok-requires c κs = counted-types _ _ (counted (c .before .before))
 
 returns-2 : tie.Need-returns-2
 unfolding planOk
@@ -37,11 +25,5 @@ returns-2 c =
 
 pub plan-ok-spec : {M : Type 1} → statement M
 plan-ok-spec =
-    tie.close
-    (tie.spec
-    counts-ok-requires
-    returns
-    all-units-ok-requires
-    all-pairs-fit-requires
-    all-tasks-ok-requires
-    returns-2)
+    tie.close (tie.spec (λ c κs. search needs) returns (λ c κs. search needs) (λ c κs. search needs)
+    (λ c κs. counted-types _ _ (counted (c .before .before))) returns-2)

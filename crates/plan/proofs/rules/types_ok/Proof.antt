@@ -5,15 +5,9 @@ use Rattle.plan.specs.Steps.{typesOk}
 use Rattle.plan.proofs.rules.types_ok.Statement.{statement}
 use Rattle.plan.proofs.rules.types_ok.Tie as tie
 
-no-type-from-requires : tie.Need-no-type-from-requires
-no-type-from-requires c κs = search needs
-
 returns : tie.Need-returns
 unfolding typesOk
 returns c = rw (le-ltb _ _ (c .if1 .taken)) (c .before .no-type-from .ensures)
-
-no-type-from-requires-2 : tie.Need-no-type-from-requires-2
-no-type-from-requires-2 c κs = search needs
 
 returns-2 : tie.Need-returns-2
 unfolding typesOk
@@ -21,4 +15,4 @@ returns-2 c = rw (lt-ltb _ _ (c .before .if1 .left), c .before .before .no-type-
 
 pub types-ok-spec : {M : Type 1} → statement M
 types-ok-spec =
-    tie.close (tie.spec no-type-from-requires returns no-type-from-requires-2 returns-2)
+    tie.close (tie.spec (λ c κs. search needs) returns (λ c κs. search needs) returns-2)

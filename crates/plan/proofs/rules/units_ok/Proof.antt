@@ -4,15 +4,9 @@ use Rattle.plan.specs.Rules.{unitsOk}
 use Rattle.plan.proofs.rules.units_ok.Statement.{statement}
 use Rattle.plan.proofs.rules.units_ok.Tie as tie
 
-mul-n : tie.Need-mul-n
-mul-n c = search needs
-
-element-copy-out-n : tie.Need-element-copy-out-n
-element-copy-out-n c = search needs
-
 returns : tie.Need-returns
 unfolding unitsOk
 returns c = search needs
 
 pub units-ok-spec : {M : Type 1} → statement M
-units-ok-spec = tie.close (tie.spec mul-n element-copy-out-n returns)
+units-ok-spec = tie.close (tie.spec (λ c. search needs) (λ c. search needs) returns)

@@ -40,45 +40,18 @@ turn c = c .before .before .before .before .before .before
 digit-here : (c : tie.Else3 Inv-loop μ-loop) → isDigit (getD (text (turn c)) (turn c .loop .n) 0) ≡ true
 digit-here c = sym (c .before .is-digit .ensures) ∙ not-false _ (c .if3 .left)
 
-loop-holds : tie.Need-loop-holds Inv-loop μ-loop
-loop-holds c = (digits-none _, search needs)
-
-shared-slice-read-b : tie.Need-shared-slice-read-b Inv-loop μ-loop
-shared-slice-read-b c = search needs
-
-field-of-requires : tie.Need-field-of-requires Inv-loop μ-loop
-field-of-requires c κs = c .before .before .before .loop .inv .0
-
 returns : tie.Need-returns Inv-loop μ-loop
 returns c =
     let l = c .before .before .before .before in
     c .field-of .ensures ∙ ended l (part-found tab (text l) (l .loop .n) (c .before .before .before .loop-test .taken) (c .before .if1 .taken))
 
-returns-2 : tie.Need-returns-2 Inv-loop μ-loop
-returns-2 c = sym (field-long _ _ (inside (c .before)) (c .if2 .taken))
-
-is-digit-requires : tie.Need-is-digit-requires Inv-loop μ-loop
-is-digit-requires c κs = search needs
-
 returns-3 : tie.Need-returns-3 Inv-loop μ-loop
 returns-3 c = sym (field-odd _ _ (inside (c .before .before .before)) (sym (c .before .is-digit .ensures) ∙ not-true _ (c .if3 .taken)))
-
-mul-value : tie.Need-mul-value Inv-loop μ-loop
-mul-value c = omega (arith, value-fits (c .before .before .before .before .before .before .loop .inv .0))
-
-digit-requires : tie.Need-digit-requires Inv-loop μ-loop
-digit-requires c κs = search needs
 
 add-value : tie.Need-add-value Inv-loop μ-loop
 add-value c =
     let l = turn (c .before) in
     omega (arith, value-fits (l .loop .inv .0), digit-small (getD (text l) (l .loop .n) 0) (digit-here (c .before)))
-
-add-n : tie.Need-add-n Inv-loop μ-loop
-add-n c = search needs
-
-loop-less : tie.Need-loop-less Inv-loop μ-loop
-loop-less c = search needs
 
 loop-again : tie.Need-loop-again Inv-loop μ-loop
 loop-again c =
@@ -88,30 +61,14 @@ loop-again c =
       omega (arith, part-more tab (text l) (l .loop .n) t (c .before .before .before .before .if1 .left)),
     )
 
-field-of-requires-2 : tie.Need-field-of-requires-2 Inv-loop μ-loop
-field-of-requires-2 c κs = c .before .loop .inv .0
-
 returns-4 : tie.Need-returns-4 Inv-loop μ-loop
 returns-4 c = let l = c .before .before in c .field-of2 .ensures ∙ ended l (part-ended tab (text l) (l .loop .n) (c .before .loop-test .left))
 
 pub read-field-spec : {M : Type 1} → statement M
 read-field-spec =
-    tie.close
-    (tie.spec
-    Inv-loop
-    μ-loop
-    loop-holds
-    shared-slice-read-b
-    field-of-requires
-    returns
-    returns-2
-    is-digit-requires
-    returns-3
-    mul-value
-    digit-requires
-    add-value
-    add-n
-    loop-less
-    loop-again
-    field-of-requires-2
-    returns-4)
+    tie.close (tie.spec Inv-loop μ-loop (λ c. (digits-none _, search needs)) (λ c. search needs)
+    (λ c κs. c .before .before .before .loop .inv .0) returns
+    (λ c. sym (field-long _ _ (inside (c .before)) (c .if2 .taken))) (λ c κs. search needs) returns-3
+    (λ c. omega (arith, value-fits (c .before .before .before .before .before .before .loop .inv .0)))
+    (λ c κs. search needs) add-value (λ c. search needs) (λ c. search needs) loop-again
+    (λ c κs. c .before .loop .inv .0) returns-4)

@@ -51,43 +51,10 @@ more c =
 fits : (c : tie.Else1 Inv-loop μ-loop) → turn (c .before) .loop .at + digits (c .before) < length (text (turn (c .before)))
 fits c = let l = turn (c .before) in omega (arith, more c, length-drop (l .loop .at) (text l))
 
-loop-holds : tie.Need-loop-holds Inv-loop μ-loop
-loop-holds c = search needs
-
-sub-rest : tie.Need-sub-rest Inv-loop μ-loop
-sub-rest c = search needs
-
-part-rest-start : tie.Need-part-rest-start Inv-loop μ-loop
-part-rest-start c = search needs
-
-part-rest-end : tie.Need-part-rest-end Inv-loop μ-loop
-part-rest-end c = search needs
-
-read-field-requires : tie.Need-read-field-requires Inv-loop μ-loop
-read-field-requires c κs = search needs
-
-enum-known-value : tie.Need-enum-known-value Inv-loop μ-loop
-enum-known-value c = search needs
-
-enum-told : tie.Need-enum-told Inv-loop μ-loop
-enum-told c = search needs
-
-no-fields-requires : tie.Need-no-fields-requires Inv-loop μ-loop
-no-fields-requires c κs = search needs
-
 returns : tie.Need-returns Inv-loop μ-loop
 returns c =
     let l = c .before .before .before .before .before .before in
     c .no-fields .ensures ∙ sym (fields-none (left l) _ _ (read (c .before .before .before) ∙ c .before .enum-told .given .1)) ∙ l .loop .inv .1
-
-mul-values : tie.Need-mul-values Inv-loop μ-loop
-mul-values c = search needs
-
-array-write-values : tie.Need-array-write-values Inv-loop μ-loop
-array-write-values c = search needs
-
-add-count : tie.Need-add-count Inv-loop μ-loop
-add-count c = search needs
 
 returns-2 : tie.Need-returns-2 Inv-loop μ-loop
 returns-2 c =
@@ -95,15 +62,6 @@ returns-2 c =
     let l = turn k in
     let few = k .before .before .before .before .before .loop-test .taken in
     sym (fields-last (left l) _ _ few _ _ (found k) (c .if1 .taken ∙ ap length (from-on (text l) (l .loop .at)))) ∙ l .loop .inv .1
-
-add-at : tie.Need-add-at Inv-loop μ-loop
-add-at c = omega (arith, fits c)
-
-add-at-2 : tie.Need-add-at-2 Inv-loop μ-loop
-add-at-2 c = omega (arith, fits c)
-
-loop-less : tie.Need-loop-less Inv-loop μ-loop
-loop-less c = search needs
 
 loop-again : tie.Need-loop-again Inv-loop μ-loop
 loop-again c =
@@ -114,34 +72,12 @@ loop-again c =
       rw (← drop-past (text l) (l .loop .at) (digits k)) (sym (fields-more (left l) _ _ few _ _ (found k) (more c)) ∙ l .loop .inv .1),
     )
 
-no-fields-requires-2 : tie.Need-no-fields-requires-2 Inv-loop μ-loop
-no-fields-requires-2 c κs = search needs
-
 returns-3 : tie.Need-returns-3 Inv-loop μ-loop
 returns-3 c = let l = c .before .before in c .no-fields2 .ensures ∙ sym (fields-full (left l) _ _ (c .before .loop-test .left)) ∙ l .loop .inv .1
 
 pub read-fields-spec : {M : Type 1} → statement M
 read-fields-spec =
-    tie.close
-    (tie.spec
-    Inv-loop
-    μ-loop
-    loop-holds
-    sub-rest
-    part-rest-start
-    part-rest-end
-    read-field-requires
-    enum-known-value
-    enum-told
-    no-fields-requires
-    returns
-    mul-values
-    array-write-values
-    add-count
-    returns-2
-    add-at
-    add-at-2
-    loop-less
-    loop-again
-    no-fields-requires-2
-    returns-3)
+    tie.close (tie.spec Inv-loop μ-loop (λ c. search needs) (λ c. search needs) (λ c. search needs) (λ c. search needs)
+    (λ c κs. search needs) (λ c. search needs) (λ c. search needs) (λ c κs. search needs) returns (λ c. search needs)
+    (λ c. search needs) (λ c. search needs) returns-2 (λ c. omega (arith, fits c)) (λ c. omega (arith, fits c))
+    (λ c. search needs) loop-again (λ c κs. search needs) returns-3)

@@ -10,33 +10,6 @@ use Rattle.plan_text.proofs.Lines.{line-short, line-untabbed, line-tabb
 use Rattle.plan_text.proofs.form.read_line.Statement.{statement}
 use Rattle.plan_text.proofs.form.read_line.Tie as tie
 
-returns : tie.Need-returns
-returns c = sym (line-short _ (c .if1 .taken))
-
-shared-slice-read-if2 : tie.Need-shared-slice-read-if2
-shared-slice-read-if2 c = search needs
-
-returns-2 : tie.Need-returns-2
-returns-2 c = sym (line-untabbed _ (c .before .before .if1 .left) (c .if2 .taken))
-
-shared-slice-read-letter : tie.Need-shared-slice-read-letter
-shared-slice-read-letter c = search needs
-
-sub-read-fields : tie.Need-sub-read-fields
-sub-read-fields c = search needs
-
-part-read-fields-start : tie.Need-part-read-fields-start
-part-read-fields-start c = search needs
-
-part-read-fields-end : tie.Need-part-read-fields-end
-part-read-fields-end c = search needs
-
-read-fields-requires : tie.Need-read-fields-requires
-read-fields-requires c κs = search needs
-
-form-of-requires : tie.Need-form-of-requires
-form-of-requires c κs = search needs
-
 returns-3 : tie.Need-returns-3
 returns-3 c =
     let k = c .before .before .before .before in
@@ -47,15 +20,6 @@ returns-3 c =
 
 pub read-line-spec : {M : Type 1} → statement M
 read-line-spec =
-    tie.close
-    (tie.spec
-    returns
-    shared-slice-read-if2
-    returns-2
-    shared-slice-read-letter
-    sub-read-fields
-    part-read-fields-start
-    part-read-fields-end
-    read-fields-requires
-    form-of-requires
-    returns-3)
+    tie.close (tie.spec (λ c. sym (line-short _ (c .if1 .taken))) (λ c. search needs)
+    (λ c. sym (line-untabbed _ (c .before .before .if1 .left) (c .if2 .taken))) (λ c. search needs) (λ c. search needs)
+    (λ c. search needs) (λ c. search needs) (λ c κs. search needs) (λ c κs. search needs) returns-3)

@@ -5,21 +5,6 @@ use Rattle.plan_text.specs.Reading.{atOdds}
 use Rattle.plan_text.proofs.step.at_odds.Statement.{statement}
 use Rattle.plan_text.proofs.step.at_odds.Tie as tie
 
-enum-told : tie.Need-enum-told
-enum-told c = search needs
-
-enum-known-line : tie.Need-enum-known-line
-enum-known-line c = search needs
-
-enum-known-line-2 : tie.Need-enum-known-line-2
-enum-known-line-2 c = search needs
-
-enum-told-2 : tie.Need-enum-told-2
-enum-told-2 c = search needs
-
-enum-told-3 : tie.Need-enum-told-3
-enum-told-3 c = search needs
-
 returns : tie.Need-returns
 unfolding atOdds
 returns c = sym (ap atOdds (c .enum-told .given .1))
@@ -42,15 +27,5 @@ returns-5 c = sym (ap atOdds (c .enum-told3 .given .1))
 
 pub at-odds-spec : {M : Type 1} → statement M
 at-odds-spec =
-    tie.close
-    (tie.spec
-    enum-told
-    enum-known-line
-    enum-known-line-2
-    enum-told-2
-    enum-told-3
-    returns
-    returns-2
-    returns-3
-    returns-4
-    returns-5)
+    tie.close (tie.spec (λ c. search needs) (λ c. search needs) (λ c. search needs) (λ c. search needs)
+    (λ c. search needs) returns returns-2 returns-3 returns-4 returns-5)

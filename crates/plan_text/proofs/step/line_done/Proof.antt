@@ -18,17 +18,11 @@ read s =
 told : (s : tie.Start) {line : Line} → s .args .line ≡ line → lineFault (read s) line ≡ 0
 told s e = sym (ap (lineFault (read s)) e) ∙ s .pre .0
 
-enum-known-line : tie.Need-enum-known-line
-enum-known-line c = search needs
-
 units-done-requires : tie.Need-units-done-requires
 units-done-requires c κs =
     let s = c .before .before .before .before in
     let g = good-units (read s) _ _ (told s (c .before .before .line .given .1)) in
     (g .type, g .next)
-
-enum-known-line-2 : tie.Need-enum-known-line-2
-enum-known-line-2 c = search needs
 
 times-done-requires : tie.Need-times-done-requires
 times-done-requires c κs =
@@ -36,22 +30,13 @@ times-done-requires c κs =
     let g = good-times (read s) _ _ _ _ (told s (c .before .before .before .line2 .given .1)) in
     (g .task, g .type)
 
-enum-known-line-3 : tie.Need-enum-known-line-3
-enum-known-line-3 c = search needs
-
 arrow-done-requires : tie.Need-arrow-done-requires
 arrow-done-requires c κs =
     let s = c .before .before .before .before in good-arrow (read s) _ _ (told s (c .before .before .line3 .given .1)) .low
 
-enum-known-line-4 : tie.Need-enum-known-line-4
-enum-known-line-4 c = search needs
-
 choice-done-requires : tie.Need-choice-done-requires
 choice-done-requires c κs =
     let s = c .before .before .before .before .before in room (read s) _ _ (told s (c .before .before .before .line4 .given .1)) (s .pre .1)
-
-enum-told : tie.Need-enum-told
-enum-told c = search needs
 
 returns : tie.Need-returns
 returns c =
@@ -79,19 +64,6 @@ returns-5 c = ap (lineDone (read (c .before .before))) (sym (c .enum-told .given
 
 pub line-done-spec : {M : Type 1} → statement M
 line-done-spec =
-    tie.close
-    (tie.spec
-    enum-known-line
-    units-done-requires
-    enum-known-line-2
-    times-done-requires
-    enum-known-line-3
-    arrow-done-requires
-    enum-known-line-4
-    choice-done-requires
-    enum-told
-    returns
-    returns-2
-    returns-3
-    returns-4
-    returns-5)
+    tie.close (tie.spec (λ c. search needs) units-done-requires (λ c. search needs) times-done-requires
+    (λ c. search needs) arrow-done-requires (λ c. search needs) choice-done-requires (λ c. search needs) returns
+    returns-2 returns-3 returns-4 returns-5)

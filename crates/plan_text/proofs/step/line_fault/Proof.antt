@@ -32,30 +32,6 @@ tests a u b o k =
       a .repeated .ensures u b o k,
     )
 
-no-form-requires : tie.Need-no-form-requires
-no-form-requires c κs = search needs
-
-out-of-range-requires : tie.Need-out-of-range-requires
-out-of-range-requires c κs = search needs
-
-at-odds-requires : tie.Need-at-odds-requires
-at-odds-requires c κs = search needs
-
-kind-of-requires : tie.Need-kind-of-requires
-kind-of-requires c κs = search needs
-
-unknown-requires : tie.Need-unknown-requires
-unknown-requires c κs = search needs
-
-repeated-requires : tie.Need-repeated-requires
-repeated-requires c κs = search needs
-
-returns : tie.Need-returns
-returns c = λ u b o k. sym (tests (c .before) u b o k ∙ rw (c .if1 .taken))
-
-returns-2 : tie.Need-returns-2
-returns-2 c = λ u b o k. sym (tests (c .before .before) u b o k ∙ rw (c .before .if1 .left, c .if2 .taken))
-
 returns-3 : tie.Need-returns-3
 returns-3 c =
     let e2 = c .before in
@@ -97,18 +73,7 @@ returns-7 c =
 
 pub line-fault-spec : {M : Type 1} → statement M
 line-fault-spec =
-    tie.close
-    (tie.spec
-    no-form-requires
-    out-of-range-requires
-    at-odds-requires
-    kind-of-requires
-    unknown-requires
-    repeated-requires
-    returns
-    returns-2
-    returns-3
-    returns-4
-    returns-5
-    returns-6
-    returns-7)
+    tie.close (tie.spec (λ c κs. search needs) (λ c κs. search needs) (λ c κs. search needs) (λ c κs. search needs)
+    (λ c κs. search needs) (λ c κs. search needs) (λ c. λ u b o k. sym (tests (c .before) u b o k ∙ rw (c .if1 .taken)))
+    (λ c. λ u b o k. sym (tests (c .before .before) u b o k ∙ rw (c .before .if1 .left, c .if2 .taken))) returns-3
+    returns-4 returns-5 returns-6 returns-7)

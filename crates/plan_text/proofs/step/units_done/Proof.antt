@@ -5,18 +5,9 @@ use Rattle.plan_text.specs.Reading.{lineDone}
 use Rattle.plan_text.proofs.step.units_done.Statement.{statement}
 use Rattle.plan_text.proofs.step.units_done.Tie as tie
 
-mul-units : tie.Need-mul-units
-mul-units c = search needs
-
-element-write-units : tie.Need-element-write-units
-element-write-units c = search needs
-
-add-d : tie.Need-add-d
-add-d c = search needs
-
 returns : tie.Need-returns
 unfolding lineDone
 returns c = λ b w p o t. refl
 
 pub units-done-spec : {M : Type 1} → statement M
-units-done-spec = tie.close (tie.spec mul-units element-write-units add-d returns)
+units-done-spec = tie.close (tie.spec (λ c. search needs) (λ c. search needs) (λ c. search needs) returns)

@@ -16,27 +16,6 @@ Inv-loop finishes s latest₀ left₀ latest left = (left < 2 ^ width) × (max l
 abbrev μ-loop : tie.MeasureT-loop
 μ-loop finishes s latest₀ left₀ latest left = size left
 
-loop-holds : tie.Need-loop-holds Inv-loop μ-loop
-loop-holds c = (c .fits .s .fits, zero-max _)
-
-lowest-member-requires : tie.Need-lowest-member-requires Inv-loop μ-loop
-lowest-member-requires c κs = search needs
-
-cast-t : tie.Need-cast-t Inv-loop μ-loop
-cast-t c = search needs
-
-mul-later : tie.Need-mul-later Inv-loop μ-loop
-mul-later c = search needs
-
-element-copy-out-later : tie.Need-element-copy-out-later Inv-loop μ-loop
-element-copy-out-later c = rw (c .lowest-member .ensures) (lowest-low _ (c .before .before .loop .inv .0) (c .before .loop-test .taken))
-
-later-requires : tie.Need-later-requires Inv-loop μ-loop
-later-requires c κs = search needs
-
-removed-requires : tie.Need-removed-requires Inv-loop μ-loop
-removed-requires c κs = search needs
-
 loop-less : tie.Need-loop-less Inv-loop μ-loop
 loop-less c =
     rw (c .removed .ensures, c .before .before .before .lowest-member .ensures)
@@ -50,22 +29,10 @@ loop-again c =
           (latest-more _ (l .loop .inv .0) (c .before .before .before .before .loop-test .taken) _ _ ∙ l .loop .inv .1),
     )
 
-returns : tie.Need-returns Inv-loop μ-loop
-returns c = latest-end _ (c .loop-test .left) (c .before .loop .inv .1)
-
 pub latest-finish-spec : {M : Type 1} → statement M
 latest-finish-spec =
-    tie.close
-    (tie.spec
-    Inv-loop
-    μ-loop
-    loop-holds
-    lowest-member-requires
-    cast-t
-    mul-later
-    element-copy-out-later
-    later-requires
-    removed-requires
-    loop-less
-    loop-again
-    returns)
+    tie.close (tie.spec Inv-loop μ-loop (λ c. (c .fits .s .fits, zero-max _)) (λ c κs. search needs) (λ c. search needs)
+    (λ c. search needs)
+    (λ c. rw (c .lowest-member .ensures) (lowest-low _ (c .before .before .loop .inv .0) (c .before .loop-test .taken)))
+    (λ c κs. search needs) (λ c κs. search needs) loop-less loop-again
+    (λ c. latest-end _ (c .loop-test .left) (c .before .loop .inv .1)))

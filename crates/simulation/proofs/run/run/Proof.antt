@@ -54,57 +54,6 @@ start-here c w h =
     (known c .predecessors-of .ensures) (c .before .before .before .difference .ensures) (c .before .before .latest-finish .ensures)
     (c .before .later .ensures) (c .later2 .ensures)
 
-loop-holds : tie.Need-loop-holds Inv-loop μ-loop
-loop-holds c = λ w h. reached-none _ _ (handed h) (w .time) (h .some)
-
-mul-t : tie.Need-mul-t Inv-loop μ-loop
-mul-t c = omega (arith, here c .few-tasks)
-
-element-copy-out-t : tie.Need-element-copy-out-t Inv-loop μ-loop
-element-copy-out-t c = omega (arith, here c .few-tasks)
-
-mul-ty : tie.Need-mul-ty Inv-loop μ-loop
-mul-ty c = omega (arith, here (c .before) .few-tasks)
-
-element-copy-out-ty : tie.Need-element-copy-out-ty Inv-loop μ-loop
-element-copy-out-ty c = omega (arith, here (c .before) .few-tasks)
-
-mul-free-first : tie.Need-mul-free-first Inv-loop μ-loop
-mul-free-first c = omega (arith, here (c .before .before .before) .type)
-
-element-copy-out-free-first : tie.Need-element-copy-out-free-first Inv-loop μ-loop
-element-copy-out-free-first c = here (c .before .before .before) .type
-
-free-first-requires : tie.Need-free-first-requires Inv-loop μ-loop
-free-first-requires c κs = let p = here (c .before .before .before .before) in (p .type, (p .some-units, p .few-units))
-
-predecessors-of-requires : tie.Need-predecessors-of-requires Inv-loop μ-loop
-predecessors-of-requires c κs = search needs
-
-difference-requires : tie.Need-difference-requires Inv-loop μ-loop
-difference-requires c κs = search needs
-
-latest-finish-requires : tie.Need-latest-finish-requires Inv-loop μ-loop
-latest-finish-requires c κs = search needs
-
-later-requires : tie.Need-later-requires Inv-loop μ-loop
-later-requires c κs = search needs
-
-mul-later : tie.Need-mul-later Inv-loop μ-loop
-mul-later c = omega (arith, in-array (c .before .before .before .before .before))
-
-array-read-later : tie.Need-array-read-later Inv-loop μ-loop
-array-read-later c = in-array (c .before .before .before .before .before)
-
-later-requires-2 : tie.Need-later-requires-2 Inv-loop μ-loop
-later-requires-2 c κs = search needs
-
-mul-finish : tie.Need-mul-finish Inv-loop μ-loop
-mul-finish c = omega (arith, here (turn c) .low)
-
-shared-slice-read-finish : tie.Need-shared-slice-read-finish Inv-loop μ-loop
-shared-slice-read-finish c = here (turn (c .before)) .timed
-
 add-finish : tie.Need-add-finish Inv-loop μ-loop
 add-finish c =
     let i = turn (c .before) in
@@ -116,33 +65,6 @@ add-finish c =
       finish-short _ _ (handed (r .1)) (r .0 .time) (r .1 .some) (r .1 .short) _ (i .loop-test .taken),
     )
 
-mul-starts : tie.Need-mul-starts Inv-loop μ-loop
-mul-starts c = omega (arith, here (turn (c .before)) .low)
-
-array-write-starts : tie.Need-array-write-starts Inv-loop μ-loop
-array-write-starts c = here (turn (c .before)) .low
-
-mul-finishes : tie.Need-mul-finishes Inv-loop μ-loop
-mul-finishes c = omega (arith, here (turn (c .before)) .low)
-
-array-write-finishes : tie.Need-array-write-finishes Inv-loop μ-loop
-array-write-finishes c = here (turn (c .before)) .low
-
-mul-free : tie.Need-mul-free Inv-loop μ-loop
-mul-free c = omega (arith, in-array (known (c .before) .before))
-
-array-write-free : tie.Need-array-write-free Inv-loop μ-loop
-array-write-free c = in-array (known (c .before) .before)
-
-later-requires-3 : tie.Need-later-requires-3 Inv-loop μ-loop
-later-requires-3 c κs = search needs
-
-add-k : tie.Need-add-k Inv-loop μ-loop
-add-k c = search needs
-
-loop-less : tie.Need-loop-less Inv-loop μ-loop
-loop-less c = search needs
-
 loop-again : tie.Need-loop-again Inv-loop μ-loop
 loop-again c = λ w h.
     let i = turn (c .before .before) in
@@ -150,41 +72,19 @@ loop-again c = λ w h.
     reached-more _ _ (handed h) (w .time) (h .some) (i .before .loop .inv w h) (i .loop-test .taken) (s .before .free-first .ensures)
     (s .predecessors-of .ensures) (start-here (c .before .before) w h) (h .times-are _ (here i .task)) (c .later3 .ensures)
 
-returns : tie.Need-returns Inv-loop μ-loop
-returns c = λ w h. reached-end _ _ (handed h) (w .time) (h .some) (c .before .loop .inv w h) (c .loop-test .left)
-
 pub run-spec : {M : Type 1} → statement M
 run-spec =
-    tie.close
-    (tie.spec
-    Inv-loop
-    μ-loop
-    loop-holds
-    mul-t
-    element-copy-out-t
-    mul-ty
-    element-copy-out-ty
-    mul-free-first
-    element-copy-out-free-first
-    free-first-requires
-    predecessors-of-requires
-    difference-requires
-    latest-finish-requires
-    later-requires
-    mul-later
-    array-read-later
-    later-requires-2
-    mul-finish
-    shared-slice-read-finish
-    add-finish
-    mul-starts
-    array-write-starts
-    mul-finishes
-    array-write-finishes
-    mul-free
-    array-write-free
-    later-requires-3
-    add-k
-    loop-less
-    loop-again
-    returns)
+    tie.close (tie.spec Inv-loop μ-loop (λ c. λ w h. reached-none _ _ (handed h) (w .time) (h .some))
+    (λ c. omega (arith, here c .few-tasks)) (λ c. omega (arith, here c .few-tasks))
+    (λ c. omega (arith, here (c .before) .few-tasks)) (λ c. omega (arith, here (c .before) .few-tasks))
+    (λ c. omega (arith, here (c .before .before .before) .type)) (λ c. here (c .before .before .before) .type)
+    (λ c κs. let p = here (c .before .before .before .before) in (p .type, (p .some-units, p .few-units)))
+    (λ c κs. search needs) (λ c κs. search needs) (λ c κs. search needs) (λ c κs. search needs)
+    (λ c. omega (arith, in-array (c .before .before .before .before .before)))
+    (λ c. in-array (c .before .before .before .before .before)) (λ c κs. search needs)
+    (λ c. omega (arith, here (turn c) .low)) (λ c. here (turn (c .before)) .timed) add-finish
+    (λ c. omega (arith, here (turn (c .before)) .low)) (λ c. here (turn (c .before)) .low)
+    (λ c. omega (arith, here (turn (c .before)) .low)) (λ c. here (turn (c .before)) .low)
+    (λ c. omega (arith, in-array (known (c .before) .before))) (λ c. in-array (known (c .before) .before))
+    (λ c κs. search needs) (λ c. search needs) (λ c. search needs) loop-again
+    (λ c. λ w h. reached-end _ _ (handed h) (w .time) (h .some) (c .before .loop .inv w h) (c .loop-test .left)))

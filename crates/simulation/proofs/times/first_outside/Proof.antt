@@ -15,38 +15,11 @@ Inv-loop bcet wcet order chosen times tasks lowest₀ k₀ lowest k =
 abbrev μ-loop : tie.MeasureT-loop
 μ-loop bcet wcet order chosen times tasks lowest₀ k₀ lowest k = tasks - k
 
-loop-holds : tie.Need-loop-holds Inv-loop μ-loop
-loop-holds c = (search needs, lowest-none)
-
-mul-t : tie.Need-mul-t Inv-loop μ-loop
-mul-t c = search needs
-
-element-copy-out-t : tie.Need-element-copy-out-t Inv-loop μ-loop
-element-copy-out-t c = search needs
-
-mul-ty : tie.Need-mul-ty Inv-loop μ-loop
-mul-ty c = search needs
-
-element-copy-out-ty : tie.Need-element-copy-out-ty Inv-loop μ-loop
-element-copy-out-ty c = search needs
-
 mul-x : tie.Need-mul-x Inv-loop μ-loop
 mul-x c = let o = c .before .before .before .before .before .pre .0 in omega (arith, o .few, o .low _ (c .before .before .loop-test .taken))
 
 shared-slice-read-x : tie.Need-shared-slice-read-x Inv-loop μ-loop
 shared-slice-read-x c = let o = c .before .before .before .before .before .before .pre in omega (arith, o .0 .low _ (c .before .before .before .loop-test .taken))
-
-time-of-requires : tie.Need-time-of-requires Inv-loop μ-loop
-time-of-requires c κs = search needs
-
-time-of-requires-2 : tie.Need-time-of-requires-2 Inv-loop μ-loop
-time-of-requires-2 c κs = search needs
-
-add-k : tie.Need-add-k Inv-loop μ-loop
-add-k c = search needs
-
-loop-less : tie.Need-loop-less Inv-loop μ-loop
-loop-less c = search needs
 
 loop-again : tie.Need-loop-again Inv-loop μ-loop
 loop-again c =
@@ -57,25 +30,8 @@ loop-again c =
           (λ w. rw (w .1) (lowest-stays (l .loop .inv .1) e (w .0 .left))) (c .if1 .came),
     )
 
-returns : tie.Need-returns Inv-loop μ-loop
-returns c = lowest-end (c .before .loop .inv .1) (omega arith)
-
 pub first-outside-spec : {M : Type 1} → statement M
 first-outside-spec =
-    tie.close
-    (tie.spec
-    Inv-loop
-    μ-loop
-    loop-holds
-    mul-t
-    element-copy-out-t
-    mul-ty
-    element-copy-out-ty
-    mul-x
-    shared-slice-read-x
-    time-of-requires
-    time-of-requires-2
-    add-k
-    loop-less
-    loop-again
-    returns)
+    tie.close (tie.spec Inv-loop μ-loop (λ c. (search needs, lowest-none)) (λ c. search needs) (λ c. search needs)
+    (λ c. search needs) (λ c. search needs) mul-x shared-slice-read-x (λ c κs. search needs) (λ c κs. search needs)
+    (λ c. search needs) (λ c. search needs) loop-again (λ c. lowest-end (c .before .loop .inv .1) (omega arith)))

@@ -15,21 +15,11 @@ Inv-loop x left₀ n₀ left n = (left ≤ x) × (n + length (decimal left) ≡ 
 abbrev μ-loop : tie.MeasureT-loop
 μ-loop x left₀ n₀ left n = left
 
-loop-holds : tie.Need-loop-holds Inv-loop μ-loop
-loop-holds c = search needs
-
-add-n : tie.Need-add-n Inv-loop μ-loop
-add-n c = omega (arith, decimal-longest (c .before .before .args .x))
-
-loop-less : tie.Need-loop-less Inv-loop μ-loop
-loop-less c = search needs
-
-loop-again : tie.Need-loop-again Inv-loop μ-loop
-loop-again c = omega (arith, length-more (c .before .loop .left) (c .loop-test .taken) (omega arith))
-
 returns : tie.Need-returns Inv-loop μ-loop
 returns c = omega (arith, length-one (c .before .loop .left) (c .loop-test .left), decimal-longest (c .before .before .args .x))
 
 pub decimal-length-spec : {M : Type 1} → statement M
 decimal-length-spec =
-    tie.close (tie.spec Inv-loop μ-loop loop-holds add-n loop-less loop-again returns)
+    tie.close (tie.spec Inv-loop μ-loop (λ c. search needs)
+    (λ c. omega (arith, decimal-longest (c .before .before .args .x))) (λ c. search needs)
+    (λ c. omega (arith, length-more (c .before .loop .left) (c .loop-test .taken) (omega arith))) returns)

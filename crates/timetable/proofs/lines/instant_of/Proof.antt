@@ -10,19 +10,10 @@ returns : tie.Need-returns
 unfolding instantOf
 returns c = simp (le-ltb _ _ (c .if1 .taken))
 
-mul-wide : tie.Need-mul-wide
-mul-wide c = search needs
-
-element-copy-out-wide : tie.Need-element-copy-out-wide
-element-copy-out-wide c = search needs
-
-wide-requires : tie.Need-wide-requires
-wide-requires c κs = search needs
-
 returns-2 : tie.Need-returns-2
 unfolding instantOf
 returns-2 c = c .wide .ensures ∙ simp (lt-ltb _ _ (c .before .before .if1 .left))
 
 pub instant-of-spec : {M : Type 1} → statement M
 instant-of-spec =
-    tie.close (tie.spec returns mul-wide element-copy-out-wide wide-requires returns-2)
+    tie.close (tie.spec returns (λ c. search needs) (λ c. search needs) (λ c κs. search needs) returns-2)

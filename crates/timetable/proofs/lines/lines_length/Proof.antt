@@ -20,36 +20,6 @@ loop-holds : tie.Need-loop-holds Inv-loop μ-loop
 unfolding joined
 loop-holds c = (upto-none refl, omega arith)
 
-mul-t : tie.Need-mul-t Inv-loop μ-loop
-mul-t c = search needs
-
-element-copy-out-t : tie.Need-element-copy-out-t Inv-loop μ-loop
-element-copy-out-t c = search needs
-
-mul-k : tie.Need-mul-k Inv-loop μ-loop
-mul-k c = search needs
-
-element-copy-out-k : tie.Need-element-copy-out-k Inv-loop μ-loop
-element-copy-out-k c = search needs
-
-instant-of-requires : tie.Need-instant-of-requires Inv-loop μ-loop
-instant-of-requires c κs = search needs
-
-instant-of-requires-2 : tie.Need-instant-of-requires-2 Inv-loop μ-loop
-instant-of-requires-2 c κs = search needs
-
-line-length-requires : tie.Need-line-length-requires Inv-loop μ-loop
-line-length-requires c κs = search needs
-
-add-n : tie.Need-add-n Inv-loop μ-loop
-add-n c = search needs
-
-add-i : tie.Need-add-i Inv-loop μ-loop
-add-i c = search needs
-
-loop-less : tie.Need-loop-less Inv-loop μ-loop
-loop-less c = search needs
-
 loop-again : tie.Need-loop-again Inv-loop μ-loop
 loop-again c =
     let e = line-at-by _ _ _ _ _ (c .before .before .instant-of .ensures) (c .before .instant-of2 .ensures) in (
@@ -58,25 +28,9 @@ loop-again c =
       omega arith,
     )
 
-returns : tie.Need-returns Inv-loop μ-loop
-returns c = (upto-end (c .before .loop .inv .0) (c .loop-test .left), omega arith)
-
 pub lines-length-spec : {M : Type 1} → statement M
 lines-length-spec =
-    tie.close
-    (tie.spec
-    Inv-loop
-    μ-loop
-    loop-holds
-    mul-t
-    element-copy-out-t
-    mul-k
-    element-copy-out-k
-    instant-of-requires
-    instant-of-requires-2
-    line-length-requires
-    add-n
-    add-i
-    loop-less
-    loop-again
-    returns)
+    tie.close (tie.spec Inv-loop μ-loop loop-holds (λ c. search needs) (λ c. search needs) (λ c. search needs)
+    (λ c. search needs) (λ c κs. search needs) (λ c κs. search needs) (λ c κs. search needs) (λ c. search needs)
+    (λ c. search needs) (λ c. search needs) loop-again
+    (λ c. (upto-end (c .before .loop .inv .0) (c .loop-test .left), omega arith)))

@@ -11,21 +11,9 @@ use Rattle.timetable.proofs.lines.put_field.Tie as tie
 room : (c : tie.After-slice-known2) → let r = c .before .before .put-decimal in Room (r .last .0) (r .result) (c .before .before .before .before .before .args .mark ∷ [])
 room c = room-then (c .before .before .put-decimal .ensures) _ (c .before .before .before .before .before .pre)
 
-put-decimal-requires : tie.Need-put-decimal-requires
-put-decimal-requires c κs = room-first _ (c .before .before .pre)
-
-slice-write-buffer : tie.Need-slice-write-buffer
-slice-write-buffer c = omega (arith, room c)
-
-add-result : tie.Need-add-result
-add-result c = omega (arith, room c, put-length (c .before .before .put-decimal .ensures))
-
-same-length : tie.Need-same-length
-same-length c = simp length-set (put-length (c .before .before .put-decimal .ensures))
-
-returns : tie.Need-returns
-returns c = put-then (c .before .before .put-decimal .ensures) (put-byte _ _ _)
-
 pub put-field-spec : {M : Type 1} → statement M
 put-field-spec =
-    tie.close (tie.spec put-decimal-requires slice-write-buffer add-result same-length returns)
+    tie.close (tie.spec (λ c κs. room-first _ (c .before .before .pre)) (λ c. omega (arith, room c))
+    (λ c. omega (arith, room c, put-length (c .before .before .put-decimal .ensures)))
+    (λ c. simp length-set (put-length (c .before .before .put-decimal .ensures)))
+    (λ c. put-then (c .before .before .put-decimal .ensures) (put-byte _ _ _)))

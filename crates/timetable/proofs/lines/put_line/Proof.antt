@@ -4,9 +4,6 @@ use Rattle.timetable.proofs.Text.{put-tabbed, room-field, room-rest}
 use Rattle.timetable.proofs.lines.put_line.Statement.{statement}
 use Rattle.timetable.proofs.lines.put_line.Tie as tie
 
-put-field-requires : tie.Need-put-field-requires
-put-field-requires c κs = room-field _ _ (c .before .before .pre)
-
 put-field-requires-2 : tie.Need-put-field-requires-2
 put-field-requires-2 c κs = room-field _ _ (room-rest _ _ (c .before .before .before .put-field .ensures) (c .before .before .before .before .before .before .pre))
 
@@ -34,16 +31,7 @@ returns c =
     (put-tabbed _ _ (k .before .before .before .put-field2 .ensures)
     (put-tabbed _ _ (s .before .before .before .put-field3 .ensures) (c .before .before .put-field4 .ensures)))
 
-same-length : tie.Need-same-length
-same-length c = put-length (returns c)
-
 pub put-line-spec : {M : Type 1} → statement M
 put-line-spec =
-    tie.close
-    (tie.spec
-    put-field-requires
-    put-field-requires-2
-    put-field-requires-3
-    put-field-requires-4
-    same-length
-    returns)
+    tie.close (tie.spec (λ c κs. room-field _ _ (c .before .before .pre)) put-field-requires-2 put-field-requires-3
+    put-field-requires-4 (λ c. put-length (returns c)) returns)

@@ -19,35 +19,11 @@ loop-holds : tie.Need-loop-holds Inv-loop μ-loop
 unfolding joined
 loop-holds c = (omega arith, record { bytes = refl; end = refl })
 
-mul-t : tie.Need-mul-t Inv-loop μ-loop
-mul-t c = search needs
-
-element-copy-out-t : tie.Need-element-copy-out-t Inv-loop μ-loop
-element-copy-out-t c = search needs
-
-mul-k : tie.Need-mul-k Inv-loop μ-loop
-mul-k c = search needs
-
-element-copy-out-k : tie.Need-element-copy-out-k Inv-loop μ-loop
-element-copy-out-k c = search needs
-
-instant-of-requires : tie.Need-instant-of-requires Inv-loop μ-loop
-instant-of-requires c κs = search needs
-
-instant-of-requires-2 : tie.Need-instant-of-requires-2 Inv-loop μ-loop
-instant-of-requires-2 c κs = search needs
-
 put-line-requires : tie.Need-put-line-requires Inv-loop μ-loop
 put-line-requires c κs =
     let l = c .before .before .before .before .before .before in
     rw (line-at-by _ _ _ _ _ (c .before .before .instant-of .ensures) (c .before .instant-of2 .ensures))
     (room-then (l .loop .inv .1) _ (room-next _ _ _ (l .before .before .pre .1) (c .before .before .before .before .before .loop-test .taken)))
-
-add-i : tie.Need-add-i Inv-loop μ-loop
-add-i c = search needs
-
-loop-less : tie.Need-loop-less Inv-loop μ-loop
-loop-less c = search needs
 
 loop-again : tie.Need-loop-again Inv-loop μ-loop
 loop-again c = (
@@ -56,28 +32,9 @@ loop-again c = (
       (c .before .before .before .before .before .before .before .before .before .loop .inv .1) (c .before .before .put-line .ensures),
 )
 
-same-length : tie.Need-same-length Inv-loop μ-loop
-same-length c = put-length (c .before .loop .inv .1)
-
-returns : tie.Need-returns Inv-loop μ-loop
-returns c = put-all _ (c .before .loop .inv .0) (c .loop-test .left) (c .before .loop .inv .1)
-
 pub put-lines-spec : {M : Type 1} → statement M
 put-lines-spec =
-    tie.close
-    (tie.spec
-    Inv-loop
-    μ-loop
-    loop-holds
-    mul-t
-    element-copy-out-t
-    mul-k
-    element-copy-out-k
-    instant-of-requires
-    instant-of-requires-2
-    put-line-requires
-    add-i
-    loop-less
-    loop-again
-    same-length
-    returns)
+    tie.close (tie.spec Inv-loop μ-loop loop-holds (λ c. search needs) (λ c. search needs) (λ c. search needs)
+    (λ c. search needs) (λ c κs. search needs) (λ c κs. search needs) put-line-requires (λ c. search needs)
+    (λ c. search needs) loop-again (λ c. put-length (c .before .loop .inv .1))
+    (λ c. put-all _ (c .before .loop .inv .0) (c .loop-test .left) (c .before .loop .inv .1)))

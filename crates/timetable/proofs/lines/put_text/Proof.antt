@@ -16,8 +16,5 @@ returns : tie.Need-returns
 unfolding textBy
 returns c = put-then (c .before .before .before .before .before .before .put-lines .ensures) (c .before .before .put-last .ensures)
 
-same-length : tie.Need-same-length
-same-length c = put-length (returns c)
-
 pub put-text-spec : {M : Type 1} → statement M
-put-text-spec = tie.close (tie.spec put-lines-requires put-last-requires same-length returns)
+put-text-spec = tie.close (tie.spec put-lines-requires put-last-requires (λ c. put-length (returns c)) returns)

@@ -13,18 +13,6 @@ use Rattle.timetable.proofs.refusal.put_refusal.Tie as tie
 room : (c : tie.Else1) → let a = c .before .before .before .before .args in Room (a .buffer .now) 0 (refusalLine (a .number) (a .place))
 room c = let a = c .before .before .before .before .args in record { fits = omega (arith, refusal-length (a .number) (a .place)) }
 
-decimal-length-requires : tie.Need-decimal-length-requires
-decimal-length-requires c κs = search needs
-
-decimal-length-requires-2 : tie.Need-decimal-length-requires-2
-decimal-length-requires-2 c κs = search needs
-
-add-needed : tie.Need-add-needed
-add-needed c = search needs
-
-add-needed-2 : tie.Need-add-needed-2
-add-needed-2 c = search needs
-
 returns : tie.Need-returns
 returns c =
     let a = c .before .before .before .before .args in
@@ -57,9 +45,6 @@ put c =
     let w = f .before .before .before .before in
     put-then (w .put-word .ensures) (put-tabbed _ _ (f .put-field .ensures) (c .before .before .put-field2 .ensures))
 
-same-length : tie.Need-same-length
-same-length c = put-length (put c)
-
 returns-2 : tie.Need-returns-2
 returns-2 c =
     let w = c .before .before .before .before .before .before .before .before .before .before in
@@ -67,15 +52,5 @@ returns-2 c =
 
 pub put-refusal-spec : {M : Type 1} → statement M
 put-refusal-spec =
-    tie.close
-    (tie.spec
-    decimal-length-requires
-    decimal-length-requires-2
-    add-needed
-    add-needed-2
-    returns
-    put-word-requires
-    put-field-requires
-    put-field-requires-2
-    same-length
-    returns-2)
+    tie.close (tie.spec (λ c κs. search needs) (λ c κs. search needs) (λ c. search needs) (λ c. search needs) returns
+    put-word-requires put-field-requires put-field-requires-2 (λ c. put-length (put c)) returns-2)
