@@ -1,96 +1,113 @@
 -- The gate of the running rules is lawful, and under it no type has more positions running than units. Assumes nothing.
-use mathlib.Core.Path.{_≡_, ap, fun-ext}
-use mathlib.Core.Bool.{Bool, true, _&&_, not, and-false}
-use Prim.Native.Nat.{ℕ, suc, _+_, _≤_, _<_, min}
+use mathlib.Core.Path.{_≡_}
+use mathlib.Core.Bool.{Bool, true, _&&_, and-false}
+use Prim.Native.Nat.{ℕ, _+_, _≤_, _<_}
 use native.Mathlib.Nat.{lt-of-le-of-lt}
 use native.Mathlib.Omega.{arith}
-use borrow.Author.Tests.{leb-true, le-leb, lt-leb, not-true, ltb-true, lt-ltb, eqb-true}
+use borrow.Author.Tests.{leb-true, le-leb, ltb-true, lt-ltb, le-ltb, eqb-true}
 use lib.Dec.{eqb, leb, ltb}
 use Rattle.task_set.specs.Bounded.{all, count, implies}
-use Rattle.task_set.proofs.Truth.{same, off, and-left, and-right, and-both, clash, implies-elim, implies-intro, and-map}
+use Rattle.task_set.proofs.Truth.{and-left, and-right, and-both, implies-elim, implies-intro, and-map}
 use Rattle.task_set.proofs.Bounded.{all-intro, all-elim, count-none, count-mono, count-bound}
-use Rattle.dispatch_theory.specs.Gate.{Lawful}
-use Rattle.dispatch_theory.specs.Greedy.{Greedy}
-use Rattle.dispatch_theory.specs.Rules.{Order, free, ruleGate}
+use Rattle.dispatch_theory.proofs.Gate.{Gate, Lawful}
+use Rattle.dispatch_theory.proofs.Greedy.{ends, Greedy}
 
--- position j is of type t and not finished
-abbrev pub taken : Order → (ℕ → Bool) → ℕ → ℕ → Bool
-taken o done t j = eqb (o .type j) t && not (done j)
+-- an order of positions: which earlier positions k waits for, the type of each, and how many units a type has
+pub record Order : Type 0 where
+  pub size : ℕ
+  pub waits : ℕ → ℕ → Bool
+  pub type : ℕ → ℕ
+  pub units : ℕ → ℕ
 
--- `free` as facts
-pub record Free (o : Order) (done : ℕ → Bool) (k : ℕ) : Type 0 where
-  pub waited : (j : ℕ) → j < k → o .waits k j ≡ true → done j ≡ true
-  pub room : count k (taken o done (o .type k)) < o .units (o .type k)
+-- position j, which finishes at F j, holds a unit of type t at the instant s
+abbrev pub holds : Order → (ℕ → ℕ) → ℕ → ℕ → ℕ → Bool
+holds o F s t j = eqb (o .type j) t && ltb s (F j)
 
-pub free-elim : (o : Order) (done : ℕ → Bool) (k : ℕ) → free o done k ≡ true → Free o done k
-unfolding free
-free-elim o done k e =
+-- k may start at s beside the positions below it, which finish at F: each that it waits for is finished, and fewer units of
+-- its type are held than there are
+unfoldable pub ruleGate : Order → Gate
+ruleGate o F k s =
+    all k (λ j. implies (o .waits k j) (leb (F j) s)) && ltb (count k (holds o F s (o .type k))) (o .units (o .type k))
+
+-- the gate as facts
+pub record Fits (o : Order) (F : ℕ → ℕ) (s k : ℕ) : Type 0 where
+  pub waited : (j : ℕ) → j < k → o .waits k j ≡ true → F j ≤ s
+  pub room : count k (holds o F s (o .type k)) < o .units (o .type k)
+
+module _ (o : Order) (F : ℕ → ℕ) (s k : ℕ) where
+  abbrev met : ℕ → Bool
+  met j = implies (o .waits k j) (leb (F j) s)
+
+  abbrev roomy : Bool
+  roomy = ltb (count k (holds o F s (o .type k))) (o .units (o .type k))
+
+  pub gate-elim : ruleGate o F k s ≡ true → Fits o F s k
+  unfolding ruleGate
+  gate-elim e =
+      record {
+        waited = λ j l w. leb-true (F j) s (implies-elim (o .waits k j) (leb (F j) s) (all-elim k met (and-left (all k met) roomy e) j l) w);
+        room = ltb-true _ (o .units (o .type k)) (and-right (all k met) roomy e);
+      }
+
+  pub gate-intro : Fits o F s k → ruleGate o F k s ≡ true
+  unfolding ruleGate
+  gate-intro f =
+      and-both (all-intro k met (λ j l. implies-intro (o .waits k j) (λ w. le-leb (F j) s (f .waited j l w))))
+      (lt-ltb _ (o .units (o .type k)) (f .room))
+
+-- finishes at most c later: what fitted fits c later
+fits-later : (o : Order) (F G : ℕ → ℕ) (s c k : ℕ) → ((j : ℕ) → j < k → F j ≤ G j + c) → Fits o G s k → Fits o F (s + c) k
+fits-later o F G s c k h f =
     record {
-      waited = λ j l. implies-elim (o .waits k j) (done j) (all-elim k met (and-left (all k met) fits e) j l);
-      room = ltb-true (count k (taken o done (o .type k))) (o .units (o .type k)) (and-right (all k met) fits e);
+      waited = λ j l w. omega (arith, h j l, f .waited j l w);
+      room = lt-of-le-of-lt (count-mono k (holds o F (s + c) t) (holds o G s t) fewer) (f .room);
     }
-  where
-    met : ℕ → Bool
-    met = λ j. implies (o .waits k j) (done j)
-
-    fits : Bool
-    fits = ltb (count k (taken o done (o .type k))) (o .units (o .type k))
-
-pub free-intro : (o : Order) (done : ℕ → Bool) (k : ℕ) → Free o done k → free o done k ≡ true
-unfolding free
-free-intro o done k f =
-    and-both (all-intro k (λ j. implies (o .waits k j) (done j)) (λ j l. implies-intro (o .waits k j) (f .waited j l)))
-    (lt-ltb (count k (taken o done (o .type k))) (o .units (o .type k)) (f .room))
-
--- more finished positions never close it
-pub free-mono : (o : Order) (p q : ℕ → Bool) (k : ℕ) → ((j : ℕ) → j < k → p j ≡ true → q j ≡ true) → free o p k ≡ true → free o q k ≡ true
-free-mono o p q k h e =
-    let f = free-elim o p k e in
-    free-intro o q k (record { waited = λ j l w. h j l (f .waited j l w); room = lt-of-le-of-lt (count-mono k (taken o q t) (taken o p t) less) (f .room) })
   where
     t : ℕ
     t = o .type k
 
-    less : (j : ℕ) → j < k → taken o q t j ≡ true → taken o p t j ≡ true
-    less j l = and-map (eqb (o .type j) t) (λ e. ap not (off (p j) (λ f. clash (h j l f) (not-true (q j) e))))
+    fewer : (j : ℕ) → j < k → holds o F (s + c) t j ≡ true → holds o G s t j ≡ true
+    fewer j l = and-map (eqb (o .type j) t) (λ e. omega (arith, ltb-true, lt-ltb, h j l))
 
--- with every position below k finished it is open
-pub free-all : (o : Order) (done : ℕ → Bool) (k : ℕ) → ((j : ℕ) → j < k → done j ≡ true) → 1 ≤ o .units (o .type k) → free o done k ≡ true
-free-all o done k h u =
-    free-intro o done k
-    (record {
-      waited = λ j l w. h j l;
-      room = rw (count-none k (taken o done (o .type k)) (λ j l. rw (h j l) (and-false (eqb (o .type j) (o .type k))))) u;
-    })
-
-pub rules-lawful : (o : Order) (n : ℕ) → ((k : ℕ) → k < n → 1 ≤ o .units (o .type k)) → Lawful (ruleGate o) n (λ j. 0) 0
-unfolding ruleGate
-rules-lawful o n u =
+-- where every position below k is over, k fits
+fits-all : (o : Order) (F : ℕ → ℕ) (s k : ℕ) → ((j : ℕ) → j < k → F j ≤ s) → 1 ≤ o .units (o .type k) → Fits o F s k
+fits-all o F s k h u =
     record {
-      shift = λ F G k s c h. free-mono o (λ j. leb (G j) s) (λ j. leb (F j) (s + c)) k (λ j l e. omega (arith, leb-true, le-leb, h j l));
-      opens = λ F k s l h b. free-all o (λ j. leb (F j) s) k (λ j i. omega (arith, le-leb, h j i)) (u k l);
-      causal = λ F k s.
-          ap (λ (f : ℕ → Bool). free o f k)
-          (fun-ext (λ j. same (leb (min (F j) (suc s)) s) (leb (F j) s) (omega (arith, leb-true, le-leb)) (omega (arith, leb-true, le-leb))));
+      waited = λ j l w. h j l;
+      room = rw (count-none k (holds o F s t) (λ j l. rw (le-ltb s (F j) (h j l)) (and-false (eqb (o .type j) t)))) u;
+    }
+  where
+    t : ℕ
+    t = o .type k
+
+-- each position has a unit
+abbrev pub Roomy : Order → Type 0
+Roomy o = (k : ℕ) → k < o .size → 1 ≤ o .units (o .type k)
+
+pub rules-lawful : (o : Order) → Roomy o → Lawful (ruleGate o) (o .size) (λ j. 0) 0
+rules-lawful o u =
+    record {
+      shift = λ F G k s c l h e. gate-intro o F (s + c) k (fits-later o F G s c k h (gate-elim o G s k e));
+      opens = λ F k s l h b. gate-intro o F s k (fits-all o F s k (λ j i. omega (arith, h j i)) (u k l));
     }
 
--- no more positions of a type run together than it has units: at the start of the last of them there was room for it
-pub units-kept : (o : Order) (n : ℕ) (d S : ℕ → ℕ) → Greedy (ruleGate o) n d S → (k s : ℕ)
-    → count n (λ j. eqb (o .type j) k && (leb (S j) s && ltb s (S j + d j))) ≤ o .units k
-unfolding ruleGate
-units-kept o n d S g k s = count-bound n (λ j. eqb (o .type j) k && runs j) (o .units k) room
+-- no more positions of a type hold a unit together than it has units: at the start of the last of them there was room for it
+pub units-kept : (o : Order) {d S : ℕ → ℕ} → Greedy (ruleGate o) (o .size) d S → (k s : ℕ)
+    → count (o .size) (λ j. eqb (o .type j) k && (leb (S j) s && ltb s (S j + d j))) ≤ o .units k
+units-kept o {d} {S} g k s = count-bound (o .size) uses (o .units k) room
   where
     runs : ℕ → Bool
     runs = λ j. leb (S j) s && ltb s (S j + d j)
 
-    open-still : (m j : ℕ) → S m ≤ s → runs j ≡ true → not (leb (S j + d j) (S m)) ≡ true
-    open-still m j u e = ap not (lt-leb (S j + d j) (S m) (omega (arith, ltb-true, and-right (leb (S j) s) (ltb s (S j + d j)) e)))
+    uses : ℕ → Bool
+    uses = λ j. eqb (o .type j) k && runs j
 
-    room : (m : ℕ) → m < n → eqb (o .type m) k && runs m ≡ true → count m (λ j. eqb (o .type j) k && runs j) < o .units k
+    held : (m j : ℕ) → S m ≤ s → runs j ≡ true → ltb (S m) (S j + d j) ≡ true
+    held m j v e = lt-ltb (S m) (S j + d j) (omega (arith, ltb-true, and-right (leb (S j) s) (ltb s (S j + d j)) e))
+
+    room : (m : ℕ) → m < o .size → uses m ≡ true → count m uses < o .units k
     room m l e =
         let t : o .type m ≡ k = eqb-true (o .type m) k (and-left (eqb (o .type m) k) (runs m) e) in
-        let u : S m ≤ s = leb-true (S m) s (and-left (leb (S m) s) (ltb s (S m + d m)) (and-right (eqb (o .type m) k) (runs m) e)) in
-        lt-of-le-of-lt
-        (count-mono m (λ j. eqb (o .type j) k && runs j) (taken o (λ j. leb (S j + d j) (S m)) k)
-        (λ j i. and-map (eqb (o .type j) k) (open-still m j u)))
-        (rw t at (free-elim o (λ j. leb (S j + d j) (S m)) m (g .open-at m l) .room))
+        let v : S m ≤ s = leb-true (S m) s (and-left (leb (S m) s) _ (and-right (eqb (o .type m) k) (runs m) e)) in
+        lt-of-le-of-lt (count-mono m uses (holds o (ends S d) (S m) k) (λ j i. and-map (eqb (o .type j) k) (held m j v)))
+        (rw t at (gate-elim o (ends S d) (S m) m (g .open-at m l) .room))

@@ -2,7 +2,7 @@
 use mathlib.Core.Path.{_≡_, ap, ap₂}
 use mathlib.Core.Bool.{Bool, true, cond, _&&_}
 use Prim.Native.Nat.{ℕ, zero, suc, _+_, _≤_, _<_}
-use native.Mathlib.Nat.{le-refl, not-suc-le-zero}
+use native.Mathlib.Nat.{le-refl, lt-trans, not-suc-le-zero}
 use native.Mathlib.Omega.{arith}
 use borrow.Author.Tests.{leb-true, le-leb, lt-ltb, le-ltb}
 use lib.Dec.{leb, ltb}
@@ -11,11 +11,9 @@ use Rattle.task_set.proofs.Truth.{and-left, and-right, and-both}
 use Rattle.task_set.proofs.Bounded.{below-suc}
 use Rattle.task_set.proofs.Search.{First, first-is, first-cong, first-passes}
 use Rattle.dispatch_theory.specs.Sums.{sum}
-use Rattle.dispatch_theory.specs.Gate.{Gate, Lawful}
-use Rattle.dispatch_theory.specs.Greedy.{ends, after, Greedy}
 use Rattle.dispatch_theory.proofs.Sums.{sum-part}
-use Rattle.dispatch_theory.proofs.Gate.{local}
-use Rattle.dispatch_theory.proofs.Greedy.{after-le, after-cong}
+use Rattle.dispatch_theory.proofs.Gate.{Gate, Lawful, local}
+use Rattle.dispatch_theory.proofs.Greedy.{ends, after, Greedy, after-le, after-cong}
 
 -- position k can start at s behind the starts S of the positions below it
 abbrev can : Gate → (ℕ → ℕ) → (ℕ → ℕ) → ℕ → ℕ → Bool
@@ -44,37 +42,41 @@ module _ (may : Gate) (hold : ℕ → ℕ) (base : ℕ) (d : ℕ → ℕ) where
   upto-starts (suc k) j l =
       below-suc (λ j. upto (suc k) j ≡ starts j) k (λ j h. rw (lt-ltb j k h) (upto-starts k j h)) (rw (le-ltb k k (le-refl k))) j l
 
-module _ (may : Gate) (n : ℕ) (hold : ℕ → ℕ) (base : ℕ) (L : Lawful may n hold base) (d : ℕ → ℕ) where
-  -- `next` looks at the positions below k alone
-  next-cong : (S R : ℕ → ℕ) (k : ℕ) → ((j : ℕ) → j < k → S j ≡ R j) → next may hold base d S k ≡ next may hold base d R k
-  next-cong S R k h =
-      first-cong (limit hold base d k) (can may d S k) (can may d R k)
-      (λ s l. ap₂ (λ (a : ℕ) (b : Bool). leb a s && b) (after-cong S R k h)
-      (local may n hold base L (ends S d) (ends R d) k s (λ j i. ap (λ (x : ℕ). x + d j) (h j i))))
+module _ {may : Gate} {n : ℕ} {hold : ℕ → ℕ} {base : ℕ} (L : Lawful may n hold base) (d : ℕ → ℕ) where
+  abbrev S : ℕ → ℕ
+  S = starts may hold base d
 
-  -- starts of which each is the next are greedy
-  next-greedy : (S : ℕ → ℕ) → ((k : ℕ) → S k ≡ next may hold base d S k) → Greedy may n d S
-  next-greedy S e =
+  -- `next` looks at the positions below k alone
+  start-next : (k : ℕ) → k < n → S k ≡ next may hold base d S k
+  unfolding starts
+  start-next k m =
+      first-cong (limit hold base d k) (can may d R k) (can may d S k)
+      (λ s l. ap₂ (λ (a : ℕ) (b : Bool). leb a s && b) (after-cong R S k before)
+      (local L (ends R d) (ends S d) k s m (λ j i. ap (λ (x : ℕ). x + d j) (before j i))))
+    where
+      R : ℕ → ℕ
+      R = upto may hold base d k
+
+      before : (j : ℕ) → j < k → R j ≡ S j
+      before = upto-starts may hold base d k
+
+  pub exists : Greedy may n d (starts may hold base d)
+  exists =
       record {
         order = λ k l. leb-true (after S k) (S k) (and-left (leb (after S k) (S k)) (may (ends S d) k (S k)) (passes k l));
         open-at = λ k l. and-right (leb (after S k) (S k)) (may (ends S d) k (S k)) (passes k l);
-        closed = λ k s l a h. rw (le-leb (after S k) s a) at (search k .searched .before s h);
+        closed = λ k s l a h. rw (le-leb (after S k) s a) at (search k l .searched .before s h);
       }
     where
-      search : (k : ℕ) → First (limit hold base d k) (can may d S k) (S k)
-      search k = rw (e k) (first-is (limit hold base d k) (can may d S k))
+      search : (k : ℕ) → k < n → First (limit hold base d k) (can may d S k) (S k)
+      search k l = rw (start-next k l) (first-is (limit hold base d k) (can may d S k))
 
-      held : (k j : ℕ) → j < k → ends S d j + hold j ≤ limit hold base d k
-      held k j h = omega (arith, search j .searched .within, sum-part k (λ j. d j + hold j) j h)
+      held : (k : ℕ) → k < n → (j : ℕ) → j < k → ends S d j + hold j ≤ limit hold base d k
+      held k l j h = omega (arith, search j (lt-trans h l) .searched .within, sum-part k (λ j. d j + hold j) j h)
 
       passes : (k : ℕ) → k < n → can may d S k (S k) ≡ true
       passes k l =
-          first-passes (search k)
-          (and-both (le-leb (after S k) (limit hold base d k) (after-le S k (limit hold base d k) (λ j h. omega (arith, held k j h))))
-          (L .opens (ends S d) k (limit hold base d k) l (held k) (omega arith)))
-
-  pub exists : Greedy may n d (starts may hold base d)
-  unfolding starts
-  exists =
-      next-greedy (starts may hold base d)
-      (λ k. next-cong (upto may hold base d k) (starts may hold base d) k (upto-starts may hold base d k))
+          let x = limit hold base d k in
+          first-passes (search k l)
+          (and-both (le-leb (after S k) x (after-le S k x (λ j h. omega (arith, held k l j h))))
+          (L .opens (ends S d) k x l (held k l) (omega arith)))

@@ -75,7 +75,7 @@ module _ (s : State) (a : Accepted (s .plan) (s .constraint)) (few : s .started 
         yes e =
             let x = running-position t e in
             rw (e, getD-tabulate mostTypes (typeUsers (s .constraint .order) (s .constraint .chosen) (s .constraint .len)) k 0 low, ← x .2)
-            (ap (λ (y : ℕ). eqb y k) (type-entry (s .plan) (s .constraint) a (x .0) (omega (arith, x .1)))
+            (ap (λ (y : ℕ). eqb y k) (type-entry a (x .0) (omega (arith, x .1)))
             ∙ sym (has-own (s .constraint .len) (λ i. eqb (entryAt (s .constraint .chosen) i) k) (x .0) (omega (arith, a .whole))
             (omega (arith, a .whole)) (x .1))
             ∙ sym (and-true _))

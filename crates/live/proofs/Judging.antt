@@ -111,7 +111,7 @@ module _ (s : State) where
             (sym (started-notes s t) ∙ and-left (hasStarted (notesOf s) t) (not (hasFinished (notesOf s) t)) e) in
             rw (e, and-true (has spent t), ← x .2)
             (ap (λ (w : ℕ). ltb (s .instant) (startIn s (entryAt (s .constraint .order) (x .0)) + w))
-            (worst-entry (s .plan) (s .constraint) a (x .0) (lt-of-lt-of-le (x .1) (y .few)))
+            (worst-entry a (x .0) (lt-of-lt-of-le (x .1) (y .few)))
             ∙ sym (ap not (has-own s a (y .few) (s .started) _ (x .0) (le-refl (s .started)) (y .few) (x .1)) ∙ not-leb _ (s .instant)))
 
     task-parts : (t : ℕ) → t < width → taskSound s t ≡ fits t && timeLeft s t

@@ -19,12 +19,13 @@ use Rattle.plan.specs.declared.Constraint.{Constraint}
 use Rattle.plan.specs.Rules.{mostTasks}
 use Rattle.plan.specs.Refusals.{entryAt}
 use Rattle.plan.proofs.Accepted.{Accepted}
-use Rattle.dispatch_theory.specs.Greedy.{ends}
+use Rattle.dispatch_theory.proofs.Greedy.{ends}
 use Rattle.dispatch_theory.proofs.Greedy.{ordered}
 use Rattle.dispatch_theory.proofs.Reorder.{count-upto}
 use Rattle.runs.specs.Running.{Notes, given, orZero, hasStarted, hasFinished, Allowed, timed}
-use Rattle.runs.proofs.Positions.{position-entry, task-times, count-by-position}
-use Rattle.runs.proofs.Closed.{durations, startsOf, lawful, greedy, started-timed, finished-timed}
+use Rattle.runs.proofs.Positions.{position-entry, count-by-position, allowed-lasts}
+use Rattle.runs.proofs.Orders.{durations, startsOf, lawful, greedy}
+use Rattle.runs.proofs.Closed.{started-timed, finished-timed}
 use Rattle.live.specs.States.{isStarted, notesOf, stateOf}
 
 -- ---- numbers that pass only if all the smaller ones do
@@ -69,11 +70,11 @@ module _ (p : Plan) (c : Constraint) (a : Accepted p c) where
 
   -- what only tasks of the plan pass is counted by position
   pub count-entries : (q : ℕ → Bool) → ((t : ℕ) → p .tasks ≤ t → q t ≡ false) → count width q ≡ count (p .tasks) (λ j. q (entry j))
-  count-entries q h = count-upto (p .tasks) width q (a .few-tasks) (λ t l m. h t l) ∙ sym (count-by-position p c a q)
+  count-entries q h = count-upto (p .tasks) width q (a .few-tasks) (λ t l m. h t l) ∙ sym (count-by-position a q)
 
   module _ (d : ℕ → ℕ) (w : Allowed p c d) where
     pub positive : (t : ℕ) → t < p .tasks → 1 ≤ d t
-    positive t l = le-trans (task-times p c a t l .some) (w t l .0)
+    positive = allowed-lasts a d w
 
     abbrev S : ℕ → ℕ
     S = startsOf p c d
@@ -86,20 +87,20 @@ module _ (p : Plan) (c : Constraint) (a : Accepted p c) where
       -- ---- when tasks have started and finished
 
       pub unstarted : (t : ℕ) → p .tasks ≤ t → hasStarted n t ≡ false
-      unstarted t l = started-timed p c a d positive i t ∙ rw (le-ltb t (p .tasks) l)
+      unstarted t l = started-timed a d positive i t ∙ rw (le-ltb t (p .tasks) l)
 
       started-low : (t : ℕ) → hasStarted n t ≡ true → t < p .tasks
-      started-low t e = ltb-true t (p .tasks) (and-left (ltb t (p .tasks)) _ (sym (started-timed p c a d positive i t) ∙ e))
+      started-low t e = ltb-true t (p .tasks) (and-left (ltb t (p .tasks)) _ (sym (started-timed a d positive i t) ∙ e))
 
       finished-low : (t : ℕ) → hasFinished n t ≡ true → t < width
       finished-low t e =
-          lt-of-lt-of-le (ltb-true t (p .tasks) (and-left (ltb t (p .tasks)) _ (sym (finished-timed p c a d positive i t) ∙ e))) (a .few-tasks)
+          lt-of-lt-of-le (ltb-true t (p .tasks) (and-left (ltb t (p .tasks)) _ (sym (finished-timed a d positive i t) ∙ e))) (a .few-tasks)
 
       pub started-entry : (j : ℕ) → j < p .tasks → hasStarted n (entry j) ≡ leb (S j) i
-      started-entry j l = started-timed p c a d positive i (entry j) ∙ rw (lt-ltb (entry j) (p .tasks) (a .task j l), position-entry p c a j l)
+      started-entry j l = started-timed a d positive i (entry j) ∙ rw (lt-ltb (entry j) (p .tasks) (a .task j l), position-entry a j l)
 
       pub finished-entry : (j : ℕ) → j < p .tasks → hasFinished n (entry j) ≡ leb (ends S (durations c d) j) i
-      finished-entry j l = finished-timed p c a d positive i (entry j) ∙ rw (lt-ltb (entry j) (p .tasks) (a .task j l), position-entry p c a j l)
+      finished-entry j l = finished-timed a d positive i (entry j) ∙ rw (lt-ltb (entry j) (p .tasks) (a .task j l), position-entry a j l)
 
       -- ---- the started tasks are the first of the order
 
@@ -116,7 +117,7 @@ module _ (p : Plan) (c : Constraint) (a : Accepted p c) where
           down k j l m e =
               started-entry j (lt-of-le-of-lt l m)
               ∙ le-leb (S j) i
-              (le-trans (ordered _ (p .tasks) _ 0 (lawful p c a) (durations c d) S (greedy p c a d) k j l m)
+              (le-trans (ordered (greedy a d) k j l m)
               (leb-true (S k) i (sym (started-entry k m) ∙ e)))
 
       pub started-back : (t : ℕ) → isStarted (stateOf p c n) t ≡ hasStarted n t

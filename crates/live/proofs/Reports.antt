@@ -98,7 +98,7 @@ module _ (s : State) (a : Accepted (s .plan) (s .constraint)) (few : s .started 
             let r : isRunning (notesOf s) t ≡ true = not-false _ (rw q at (h t l)) in
             rw (
               q,
-              own-time t (s .instant + 1) r (s .plan .bcet) (best (s .plan) (s .constraint)) (best-entry (s .plan) (s .constraint) a),
+              own-time t (s .instant + 1) r (s .plan .bcet) (best (s .plan) (s .constraint)) (best-entry a),
               add-one (s .instant),
             )
             (not-leb (orZero (notesOf s .start t) + best (s .plan) (s .constraint) t) (suc (s .instant)))
@@ -122,7 +122,7 @@ module _ (s : State) (a : Accepted (s .plan) (s .constraint)) (few : s .started 
         yes r =
             rw (
               r,
-              own-time t (s .instant + 1) r (s .plan .wcet) (worst (s .plan) (s .constraint)) (worst-entry (s .plan) (s .constraint) a),
+              own-time t (s .instant + 1) r (s .plan .wcet) (worst (s .plan) (s .constraint)) (worst-entry a),
               add-one (s .instant),
             )
             (ap (λ (b : Bool). b && not (has report t)) (and-true late) ∙ and-comm late (not (has report t)))

@@ -19,14 +19,15 @@ use Rattle.plan.specs.Rules.{mostTypes, mostTasks, longestTime}
 use Rattle.plan.specs.Refusals.{entryAt, verdict}
 use Rattle.plan.proofs.Accepted.{Accepted, accepted}
 use Rattle.dispatch_theory.specs.Sums.{sum}
-use Rattle.dispatch_theory.specs.Greedy.{ends}
+use Rattle.dispatch_theory.proofs.Greedy.{ends}
 use Rattle.dispatch_theory.proofs.Rules.{units-kept}
 use Rattle.runs.specs.Running.{Notes, orZero, given, hasStarted, isRunning, busy, typeOf, worst, Allowed, timed, over, response, bound}
 use Rattle.runs.proofs.Positions.{position, type-entry, task-times}
-use Rattle.runs.proofs.Closed.{orderOf, durations, startsOf, once, greedy, timed-closed}
+use Rattle.runs.proofs.Orders.{orderOf, durations, startsOf, greedy}
+use Rattle.runs.proofs.Closed.{once, timed-closed}
 use Rattle.runs.proofs.Response.{response-shorter}
-use Rattle.runs.proofs.Listed.{worst-positive}
-use Rattle.runs.proofs.Theorems.{first-over, bound-sum}
+use Rattle.runs.proofs.Positions.{worst-lasts, allowed-most}
+use Rattle.runs.proofs.Theorems.{first-over, bound-sum, units-enough as runs-enough}
 use Rattle.live.specs.declared.State.{State}
 use Rattle.live.specs.States.{isStarted, stateOf}
 use Rattle.live.specs.Soundness.{startIn, finishIn, lastInstant, checked, startedFits, finishedStarted, startCame}
@@ -69,13 +70,13 @@ module _ (p : Plan) (c : Constraint) (ok : verdict p c .number ≡ 0) (d : ℕ �
   -- ---- the tasks
 
   came : (t : ℕ) → Came (n .instant) (worst p c t) (n .start t) (n .finish t)
-  came t = rw (timed-closed p c a d lasts i) (by-test (ltb t (p .tasks)) (λ e. rw e (ours (ltb-true t (p .tasks) e))) (λ e. rw e tt))
+  came t = rw (timed-closed a d lasts i) (by-test (ltb t (p .tasks)) (λ e. rw e (ours (ltb-true t (p .tasks) e))) (λ e. rw e tt))
     where
       at : ℕ
       at = startsOf p c d (position c t)
 
       ours : t < p .tasks → Came i (worst p c t) (once (leb at i) at) (once (leb (at + d t) i) (at + d t))
-      ours l = came-once i at (d t) (worst p c t) (lasts t l) (w t l .1) (leb at i) (leb (at + d t) i) refl refl
+      ours l = came-once i at (d t) (worst p c t) (lasts t l) (allowed-most a d w t l) (leb at i) (leb (at + d t) i) refl refl
 
   task-sound : (t : ℕ) → t < width → taskSound s t ≡ true
   unfolding stateOf taskSound finishedStarted startCame finishCame unusedZero timeLeft
@@ -92,34 +93,16 @@ module _ (p : Plan) (c : Constraint) (ok : verdict p c .number ≡ 0) (d : ℕ �
 
   -- ---- the units
 
-  busy-few : (k : ℕ) → busy c n k ≤ getD (p .units) k 0
-  unfolding busy
-  busy-few k =
-      le-trans
-      (le-of-eq
-      (count-entries p c a uses (λ t l. rw (unstarted p c a d w i t l)) ∙ count-cong (p .tasks) (λ j. uses (entryAt (c .order) j)) _ each))
-      (units-kept (orderOf p c) (p .tasks) (durations c d) (startsOf p c d) (greedy p c a d) k i)
-    where
-      uses : ℕ → Bool
-      uses t = isRunning n t && eqb (typeOf c t) k
-
-      each : (j : ℕ) → j < p .tasks
-          → uses (entryAt (c .order) j) ≡ eqb (entryAt (c .chosen) j) k
-          && (leb (startsOf p c d j) i && ltb i (ends (startsOf p c d) (durations c d) j))
-      each j l =
-          rw (started-entry p c a d w i j l, finished-entry p c a d w i j l, type-entry p c a j l, not-leb)
-          (and-comm _ (eqb (entryAt (c .chosen) j) k))
-
   units-enough : (k : ℕ) → k < mostTypes → unitsEnough s k ≡ true
   unfolding unitsEnough stateOf
   units-enough k l =
       ap (λ (m : Notes). leb (busy c m k) (getD (p .units) k 0)) (notes-back p c a d w i)
-      ∙ le-leb (busy c n k) (getD (p .units) k 0) (busy-few k)
+      ∙ le-leb (busy c n k) (getD (p .units) k 0) (runs-enough p c ok d w i k)
 
   -- ---- the instant
 
   bound-low : bound p c ≤ lastInstant
-  bound-low = omega (arith, bound-sum p c ok, sum-most (p .tasks) (worst p c) (λ t l. task-times p c a t l .short), a .few-tasks)
+  bound-low = omega (arith, bound-sum p c ok, sum-most (p .tasks) (worst p c) (λ t l. task-times a t l .short), a .few-tasks)
 
   instant-low : instantLow s ≡ true
   unfolding instantLow stateOf bound
@@ -130,12 +113,12 @@ module _ (p : Plan) (c : Constraint) (ok : verdict p c .number ≡ 0) (d : ℕ �
       (λ e. or-right (over p n) (lt-ltb (n .instant) lastInstant (omega (arith, instant-is, before e, bound-low)))))
     where
       instant-is : n .instant ≡ i
-      instant-is = ap (λ (m : Notes). m .instant) (timed-closed p c a d lasts i)
+      instant-is = ap (λ (m : Notes). m .instant) (timed-closed a d lasts i)
 
       before : over p n ≡ false → i < bound p c
       before e =
           lt-of-lt-of-le (leb-false (response p c d) i (sym (first-over p c ok d w i) ∙ e))
-          (response-shorter p c a d (worst p c) lasts (worst-positive p c a) (λ t l. w t l .1))
+          (response-shorter a d (worst p c) lasts (worst-lasts a) (allowed-most a d w))
 
   pub state-sound : isSound s ≡ true
   unfolding isSound checked startedFits stateOf

@@ -21,7 +21,8 @@ use Rattle.plan.specs.Rules.{mostTypes, mostTasks, predecessorsOf}
 use Rattle.plan.specs.Refusals.{entryAt}
 use Rattle.plan.proofs.Accepted.{Accepted}
 use Rattle.runs.specs.Running.{Entry, entries, Notes, isRunning, cleared, mayStart, begin, dispatch}
-use Rattle.runs.proofs.Closed.{entryOf, entries-from, entries-end, notes-ext}
+use Rattle.runs.proofs.Orders.{entryOf, entries-from, entries-end}
+use Rattle.runs.proofs.Closed.{notes-ext}
 use Rattle.live.specs.declared.State.{State}
 use Rattle.live.specs.declared.walk.Walked.{Walked}
 use Rattle.live.specs.States.{isStarted, notesOf}

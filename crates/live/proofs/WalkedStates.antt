@@ -16,7 +16,7 @@ use Rattle.plan.specs.Refusals.{entryAt}
 use Rattle.plan.proofs.Accepted.{Accepted, accepted}
 use Rattle.runs.specs.Running.{Entry, entries, dispatch}
 use Rattle.runs.specs.Journal.{newlyStarted}
-use Rattle.runs.proofs.Closed.{entries-from}
+use Rattle.runs.proofs.Orders.{entries-from}
 use Rattle.live.specs.declared.State.{State}
 use Rattle.live.specs.declared.walk.Walked.{Walked}
 use Rattle.live.specs.States.{isStarted, notesOf}

@@ -23,10 +23,10 @@ at-present here a b e f = or-false-right a (rw f at e)
     or-false-right true g = refl
     or-false-right false g = g
 
-between-low : (a x b : ℕ) → between a x b ≡ true → a ≤ x
+pub between-low : (a x b : ℕ) → between a x b ≡ true → a ≤ x
 between-low a x b e = leb-true a x (and-left (leb a x) (leb x b) e)
 
-between-high : (a x b : ℕ) → between a x b ≡ true → x ≤ b
+pub between-high : (a x b : ℕ) → between a x b ≡ true → x ≤ b
 between-high a x b e = leb-true x b (and-right (leb a x) (leb x b) e)
 
 pub counted-types : (types tasks : ℕ) → countsOk types tasks ≡ true → types ≤ mostTypes

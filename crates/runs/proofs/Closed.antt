@@ -1,7 +1,7 @@
 -- The notes of a timed run in closed form: a task starts at its greedy start and finishes its time later. Assumes nothing.
 use mathlib.Core.Path.{_≡_, refl, sym, ap, ap₂, _∙_, subst, fun-ext}
 use mathlib.Core.Bool.{Bool, true, false, cond, _&&_, _||_, not, or-true, or-false, and-false, and-comm}
-use mathlib.Core.List.{List, [], _∷_}
+use mathlib.Core.List.{List}
 use mathlib.Core.Option.{Option, none, some}
 use Prim.Native.Nat.{ℕ, zero, suc, _+_, _≤_, _<_, zero-le}
 use native.Mathlib.Nat.{le-trans, lt-trans, le-of-lt, lt-of-lt-of-le, le-refl, lt-suc-self, not-suc-le-zero}
@@ -11,54 +11,18 @@ use lib.Dec.{eqb, leb, ltb, leb·suc-suc}
 use lib.ListN.{getD, drop}
 use Rattle.task_set.specs.Bounded.{all, count, implies}
 use Rattle.task_set.specs.Sets.{width, has}
-use Rattle.task_set.proofs.Truth.{by-test, same, implies-intro, implies-elim}
-use Rattle.task_set.proofs.Bounded.{below-suc, all-intro, all-elim, count-cong}
+use Rattle.task_set.proofs.Truth.{by-test, same, implies-intro, implies-elim, not-leb}
+use Rattle.task_set.proofs.Bounded.{below-suc, other-below, all-intro, all-elim, count-cong}
 use Rattle.plan.specs.declared.Plan.{Plan}
 use Rattle.plan.specs.declared.Constraint.{Constraint}
 use Rattle.plan.specs.Rules.{predecessorsOf}
-use Rattle.plan.specs.Refusals.{entryAt}
 use Rattle.plan.proofs.Accepted.{Accepted}
-use Rattle.dispatch_theory.specs.Gate.{Lawful}
-use Rattle.dispatch_theory.specs.Greedy.{ends, Greedy}
-use Rattle.dispatch_theory.specs.Rules.{Order, free, ruleGate}
-use Rattle.dispatch_theory.proofs.Greedy.{ordered, after-le}
-use Rattle.dispatch_theory.proofs.Rules.{rules-lawful}
-use Rattle.dispatch_theory.proofs.Starts.{starts, exists}
-use Rattle.runs.specs.Running.{Entry, entries, typeOf, Notes, given, hasStarted, hasFinished, isRunning, cleared, busy, mayStart, begin, dispatch, advance, step, blank, opening, timeUp, timed}
-use Rattle.task_set.proofs.Tables.{drop-tabulate, drop-all}
+use Rattle.dispatch_theory.proofs.Greedy.{ends, ordered, after-le}
+use Rattle.dispatch_theory.proofs.Rules.{holds, ruleGate}
 use Rattle.dispatch_theory.proofs.Reorder.{count-upto}
-use Rattle.runs.proofs.Positions.{position, position-entry, position-low, entry-position, type-entry, count-by-position}
-
--- ---- the order of a plan and a constraint, by position
-
--- which earlier position a position waits for, its type, and how many units a type has
-abbrev pub orderOf : Plan → Constraint → Order
-orderOf p c =
-    record {
-      waits = λ k j. has (predecessorsOf (p .predecessors) (entryAt (c .order) k)) (entryAt (c .order) j);
-      type = λ k. entryAt (c .chosen) k;
-      units = λ k. getD (p .units) k 0;
-    }
-
--- the times by position
-abbrev pub durations : Constraint → (ℕ → ℕ) → ℕ → ℕ
-durations c d j = d (entryAt (c .order) j)
-
--- the greedy starts by position
-abbrev pub startsOf : Plan → Constraint → (ℕ → ℕ) → ℕ → ℕ
-startsOf p c d = starts (ruleGate (orderOf p c)) (λ j. 0) 0 (durations c d)
-
--- the entry of a position
-abbrev pub entryOf : Constraint → ℕ → Entry
-entryOf c j = record { task = entryAt (c .order) j; type = entryAt (c .chosen) j }
-
-pub entries-from : (c : Constraint) (k : ℕ) → k < c .len → drop k (entries c) ≡ entryOf c k ∷ drop (suc k) (entries c)
-unfolding entries
-entries-from c k l = drop-tabulate (c .len) (entryOf c) k l
-
-pub entries-end : (c : Constraint) → drop (c .len) (entries c) ≡ []
-unfolding entries
-entries-end c = drop-all (c .len) (entryOf c)
+use Rattle.runs.specs.Running.{Entry, entries, typeOf, Notes, given, hasStarted, hasFinished, isRunning, cleared, busy, mayStart, begin, dispatch, advance, step, blank, opening, timeUp, timed}
+use Rattle.runs.proofs.Positions.{taskAt, typeAt, position, position-entry, position-low, entry-position, type-entry, count-by-position}
+use Rattle.runs.proofs.Orders.{orderOf, Lasting, durations, startsOf, startOf, finishOf, greedy, entryOf, entries-from, entries-end}
 
 -- x once it has come
 abbrev pub once : Bool → ℕ → Option ℕ
@@ -73,29 +37,23 @@ once-some true x s e = cc
 once-some false x s e = let z : _≡_ {A = ℕ} 0 1 = ap (λ (o : Option ℕ). cond (given o) 1 0) e in absurd (omega arith)
 
 -- notes are equal where their parts are
-pub notes-ext : {n m : Notes} → n .instant ≡ m .instant → ((t : ℕ) → n .start t ≡ m .start t) → ((t : ℕ) → n .finish t ≡ m .finish t) → n ≡ m
+pub notes-ext : {n m : Notes} → n .instant ≡ m .instant → ((t : ℕ) → n .start t ≡ m .start t)
+    → ((t : ℕ) → n .finish t ≡ m .finish t) → n ≡ m
 notes-ext {n} {m} e f g =
     ap (λ (i : ℕ). record { instant = i; start = n .start; finish = n .finish }) e
     ∙ ap₂ (λ (s : ℕ → Option ℕ) (r : ℕ → Option ℕ). record { instant = m .instant; start = s; finish = r }) (fun-ext f) (fun-ext g)
 
--- another number than k is below k exactly if it is below its successor
-other-below : (x k : ℕ) → (x ≡ k → ⊥) → ltb x k ≡ ltb x (suc k)
-other-below x k f =
-    same (ltb x k) (ltb x (suc k)) (λ e. lt-ltb x (suc k) (omega (arith, ltb-true x k e))) (λ e. lt-ltb x k (omega (arith, f, ltb-true x (suc k) e)))
-
-pub lawful : (p : Plan) (c : Constraint) → Accepted p c → Lawful (ruleGate (orderOf p c)) (p .tasks) (λ j. 0) 0
-lawful p c a = rules-lawful (orderOf p c) (p .tasks) (λ k l. a .some-units (entryAt (c .chosen) k) (a .type k l))
-
-pub greedy : (p : Plan) (c : Constraint) → Accepted p c → (d : ℕ → ℕ) → Greedy (ruleGate (orderOf p c)) (p .tasks) (durations c d) (startsOf p c d)
-greedy p c a d = exists (ruleGate (orderOf p c)) (p .tasks) (λ j. 0) 0 (lawful p c a) (durations c d)
-
-module _ (p : Plan) (c : Constraint) (a : Accepted p c) (d : ℕ → ℕ) (positive : (t : ℕ) → t < p .tasks → 1 ≤ d t) where
+module _ {p : Plan} {c : Constraint} (a : Accepted p c) (d : ℕ → ℕ) (positive : Lasting p d) where
   -- the greedy start by position, and by task
   abbrev S : ℕ → ℕ
   S = startsOf p c d
 
   abbrev at : ℕ → ℕ
-  at t = S (position c t)
+  at = startOf p c d
+
+  -- the finish by position
+  abbrev F : ℕ → ℕ
+  F = ends S (durations c d)
 
   -- task t of the plan, and the test
   abbrev ours : ℕ → Bool → Bool
@@ -122,93 +80,94 @@ module _ (p : Plan) (c : Constraint) (a : Accepted p c) (d : ℕ → ℕ) (posit
   ours-cong x y h t =
       by-test (ltb t (p .tasks)) (λ e. ap (ours t) (h t (ltb-true t (p .tasks) e))) (λ e. rw e refl)
 
-  started-entry : (i k j : ℕ) → j < p .tasks → hasStarted (walked i k) (entryAt (c .order) j) ≡ ltb (S j) i || (leb (S j) i && ltb j k)
+  started-entry : (i k j : ℕ) → j < p .tasks → hasStarted (walked i k) (taskAt c j) ≡ ltb (S j) i || (leb (S j) i && ltb j k)
   started-entry i k j l =
-      given-once (ours t (begun i k t)) (at t) ∙ rw (lt-ltb t (p .tasks) (a .task j l), position-entry p c a j l) refl
+      given-once (ours t (begun i k t)) (at t) ∙ rw (lt-ltb t (p .tasks) (a .task j l), position-entry a j l) refl
     where
       t : ℕ
-      t = entryAt (c .order) j
+      t = taskAt c j
 
-  finished-entry : (i k j : ℕ) → j < p .tasks → hasFinished (walked i k) (entryAt (c .order) j) ≡ leb (ends S (durations c d) j) i
+  finished-entry : (i k j : ℕ) → j < p .tasks → hasFinished (walked i k) (taskAt c j) ≡ leb (F j) i
   finished-entry i k j l =
-      given-once (ours t (leb (at t + d t) i)) (at t + d t) ∙ rw (lt-ltb t (p .tasks) (a .task j l), position-entry p c a j l) refl
+      given-once (ours t (leb (at t + d t) i)) (at t + d t) ∙ rw (lt-ltb t (p .tasks) (a .task j l), position-entry a j l) refl
     where
       t : ℕ
-      t = entryAt (c .order) j
+      t = taskAt c j
 
   -- ---- a task of the order may start exactly if the gate of its position is open
 
   module _ (i k : ℕ) (low : k < p .tasks) (past : (j : ℕ) → j < k → S j ≤ i) (due : i ≤ S k) where
-    done : ℕ → Bool
-    done j = leb (ends S (durations c d) j) i
+    abbrev waits : ℕ → ℕ → Bool
+    waits = orderOf p c .waits
 
-    predecessors : ℕ
-    predecessors = predecessorsOf (p .predecessors) (entryAt (c .order) k)
+    abbrev type : ℕ → ℕ
+    type = orderOf p c .type
 
-    cleared-entry : cleared p (walked i k) (entryAt (c .order) k) ≡ all k (λ j. implies (has predecessors (entryAt (c .order) j)) (done j))
-    unfolding cleared predecessors done
+    cleared-entry : cleared p (walked i k) (taskAt c k) ≡ all k (λ j. implies (waits k j) (leb (F j) i))
+    unfolding cleared
     cleared-entry = same (all width waited) (all k met) forth back
       where
         waited : ℕ → Bool
-        waited u = implies (has predecessors u) (hasFinished (walked i k) u)
+        waited u = implies (has (predecessorsOf (p .predecessors) (taskAt c k)) u) (hasFinished (walked i k) u)
 
         met : ℕ → Bool
-        met j = implies (has predecessors (entryAt (c .order) j)) (done j)
+        met j = implies (waits k j) (leb (F j) i)
 
         forth : all width waited ≡ true → all k met ≡ true
         forth e =
             all-intro k met
             (λ j l. let m : j < p .tasks = lt-trans l low in
-            rw (← finished-entry i k j m) (all-elim width waited e (entryAt (c .order) j) (lt-of-lt-of-le (a .task j m) (a .few-tasks))))
+            rw (← finished-entry i k j m) (all-elim width waited e (taskAt c j) (lt-of-lt-of-le (a .task j m) (a .few-tasks))))
 
         back : all k met ≡ true → all width waited ≡ true
         back e =
             all-intro width waited
-            (λ u l. implies-intro (has predecessors u)
+            (λ u l. implies-intro (has (predecessorsOf (p .predecessors) (taskAt c k)) u)
             (λ h. let r = a .earlier k u low l h in
+            let w : waits k (r .0) ≡ true = ap (has (predecessorsOf (p .predecessors) (taskAt c k))) (r .2) ∙ h in
             subst (λ (x : ℕ). hasFinished (walked i k) x ≡ true) (r .2)
-            (finished-entry i k (r .0) (lt-trans (r .1) low)
-            ∙ implies-elim (has predecessors (entryAt (c .order) (r .0))) (done (r .0)) (all-elim k met e (r .0) (r .1)) (ap (has predecessors) (r .2) ∙ h))))
+            (finished-entry i k (r .0) (lt-trans (r .1) low) ∙ implies-elim (waits k (r .0)) (leb (F (r .0)) i) (all-elim k met e (r .0) (r .1)) w)))
 
-    -- a position that runs in the walk: one before k that is not finished
-    running-entry : (j : ℕ) → j < k → isRunning (walked i k) (entryAt (c .order) j) ≡ not (done j)
-    unfolding done
-    running-entry j l =
+    -- a position that holds a unit in the walk: one before k that is not over
+    taken-entry : (j : ℕ) → j < k → isRunning (walked i k) (taskAt c j) ≡ ltb i (F j)
+    taken-entry j l =
         let m : j < p .tasks = lt-trans l low in
-        rw (started-entry i k j m, finished-entry i k j m, le-leb (S j) i (past j l), lt-ltb j k l, or-true (ltb (S j) i)) refl
+        rw (started-entry i k j m, finished-entry i k j m, le-leb (S j) i (past j l), lt-ltb j k l, or-true (ltb (S j) i)) (not-leb (F j) i)
 
-    idle-entry : (j : ℕ) → k ≤ j → j < p .tasks → hasStarted (walked i k) (entryAt (c .order) j) ≡ false
-    idle-entry j l m =
-        rw (started-entry i k j m, le-ltb (S j) i (le-trans due (ordered _ (p .tasks) _ 0 (lawful p c a) (durations c d) S (greedy p c a d) j k l m)), le-ltb j k l)
-        (and-false (leb (S j) i))
+    -- a position from k on has not started
+    late : (j : ℕ) → k ≤ j → j < p .tasks → i ≤ S j
+    late j l m = le-trans due (ordered (greedy a d) j k l m)
 
-    busy-entry : busy c (walked i k) (entryAt (c .chosen) k) ≡ count k (λ j. eqb (entryAt (c .chosen) j) (entryAt (c .chosen) k) && not (done j))
+    not-started : (j : ℕ) → k ≤ j → j < p .tasks → hasStarted (walked i k) (taskAt c j) ≡ false
+    not-started j l m = rw (started-entry i k j m, le-ltb (S j) i (late j l m), le-ltb j k l) (and-false (leb (S j) i))
+
+    busy-entry : (y : ℕ) → busy c (walked i k) y ≡ count k (holds (orderOf p c) F i y)
     unfolding busy
-    busy-entry =
+    busy-entry y =
         count-upto (p .tasks) width uses (a .few-tasks) (λ t l m. rw (le-ltb t (p .tasks) l) refl)
-        ∙ sym (count-by-position p c a uses)
-        ∙ count-upto k (p .tasks) (λ j. uses (entryAt (c .order) j)) (le-of-lt low) (λ j l m. rw (idle-entry j l m) refl)
-        ∙ count-cong k (λ j. uses (entryAt (c .order) j)) (λ j. eqb (entryAt (c .chosen) j) (entryAt (c .chosen) k) && not (done j))
-        (λ j l. ap₂ _&&_ (running-entry j l) (ap (λ (x : ℕ). eqb x (entryAt (c .chosen) k)) (type-entry p c a j (lt-trans l low)))
-        ∙ and-comm (not (done j)) (eqb (entryAt (c .chosen) j) (entryAt (c .chosen) k)))
+        ∙ sym (count-by-position a uses)
+        ∙ count-upto k (p .tasks) (λ j. uses (taskAt c j)) (le-of-lt low) (λ j l m. rw (not-started j l m) refl)
+        ∙ count-cong k (λ j. uses (taskAt c j)) (holds (orderOf p c) F i y)
+        (λ j l. ap₂ _&&_ (taken-entry j l) (ap (λ (x : ℕ). eqb x y) (type-entry a j (lt-trans l low))) ∙ and-comm (ltb i (F j)) (eqb (type j) y))
       where
         uses : ℕ → Bool
-        uses t = isRunning (walked i k) t && eqb (typeOf c t) (entryAt (c .chosen) k)
+        uses t = isRunning (walked i k) t && eqb (typeOf c t) y
+
+    gate-entry : mayStart p c (walked i k) (entryOf c k) ≡ ruleGate (orderOf p c) F k i
+    unfolding mayStart ruleGate
+    gate-entry = ap₂ (λ (x : Bool) (y : ℕ). x && ltb y (getD (p .units) (type k) 0)) cleared-entry (busy-entry (type k))
 
     may-entry : mayStart p c (walked i k) (entryOf c k) ≡ leb (S k) i
-    unfolding mayStart ruleGate free done predecessors
-    may-entry =
-        ap₂ (λ (x : Bool) (y : ℕ). x && ltb y (getD (p .units) (entryAt (c .chosen) k) 0)) cleared-entry busy-entry
-        ∙ by-test (leb (S k) i) open-now shut-now
+    may-entry = gate-entry ∙ by-test (leb (S k) i) open-now shut-now
       where
         may : ℕ → Bool
-        may s = ruleGate (orderOf p c) (ends S (durations c d)) k s
+        may s = ruleGate (orderOf p c) F k s
 
         open-now : leb (S k) i ≡ true → may i ≡ leb (S k) i
-        open-now e = let q : S k ≡ i = omega (arith, leb-true (S k) i e) in rw e (subst (λ (x : ℕ). may x ≡ true) q (greedy p c a d .open-at k low))
+        open-now e = let q : S k ≡ i = omega (arith, leb-true (S k) i e) in rw e (subst (λ (x : ℕ). may x ≡ true) q (greedy a d .open-at k low))
 
         shut-now : leb (S k) i ≡ false → may i ≡ leb (S k) i
-        shut-now e = rw e (greedy p c a d .closed k i low (after-le S k i past) (leb-false (S k) i e))
+        shut-now e = rw e (greedy a d .closed k i low (after-le S k i past) (leb-false (S k) i e))
 
   -- ---- the walk of an instant
 
@@ -220,7 +179,7 @@ module _ (p : Plan) (c : Constraint) (a : Accepted p c) (d : ℕ → ℕ) (posit
       each t l =
           by-test (ltb (position c t) k)
           (λ e. let m : at t ≤ i = past (position c t) (ltb-true (position c t) k e) in rw (e, le-leb (at t) i m) (or-true (ltb (at t) i)))
-          (λ e. let m : i < at t = later (position c t) (ltb-false (position c t) k e) (position-low p c a t l) in
+          (λ e. let m : i < at t = later (position c t) (ltb-false (position c t) k e) (position-low a t l) in
           rw (lt-leb (at t) i m, le-ltb (at t) i (le-of-lt m)) refl)
 
   -- one position further, where the tests of the tasks at other positions stay
@@ -240,29 +199,29 @@ module _ (p : Plan) (c : Constraint) (a : Accepted p c) (d : ℕ → ℕ) (posit
           (λ e. further i k t (λ m. eqb-false (position c t) k e))
 
   -- a position whose start has come begins
-  begins : (i k : ℕ) → k < p .tasks → S k ≡ i → begin (walked i k) (entryAt (c .order) k) ≡ walked i (suc k)
-  begins i k low e = notes-ext refl (λ t. by-test (eqb (entryAt (c .order) k) t) (here t) (elsewhere t)) (λ t. refl)
+  begins : (i k : ℕ) → k < p .tasks → S k ≡ i → begin (walked i k) (taskAt c k) ≡ walked i (suc k)
+  begins i k low e = notes-ext refl (λ t. by-test (eqb (taskAt c k) t) (here t) (elsewhere t)) (λ t. refl)
     where
       goal : ℕ → Type 0
-      goal t = cond (eqb (entryAt (c .order) k) t) (some i) (walked i k .start t) ≡ walked i (suc k) .start t
+      goal t = cond (eqb (taskAt c k) t) (some i) (walked i k .start t) ≡ walked i (suc k) .start t
 
-      here : (t : ℕ) → eqb (entryAt (c .order) k) t ≡ true → goal t
+      here : (t : ℕ) → eqb (taskAt c k) t ≡ true → goal t
       here t f =
-          subst goal (eqb-true (entryAt (c .order) k) t f)
+          subst goal (eqb-true (taskAt c k) t f)
           (rw (
-            eq-eqb (entryAt (c .order) k) (entryAt (c .order) k) refl,
-            position-entry p c a k low,
-            lt-ltb (entryAt (c .order) k) (p .tasks) (a .task k low),
+            eq-eqb (taskAt c k) (taskAt c k) refl,
+            position-entry a k low,
+            lt-ltb (taskAt c k) (p .tasks) (a .task k low),
             e,
             le-leb i i (le-refl i),
             lt-ltb k (suc k) (lt-suc-self k),
             or-true (ltb i i),
           ) refl)
 
-      elsewhere : (t : ℕ) → eqb (entryAt (c .order) k) t ≡ false → goal t
+      elsewhere : (t : ℕ) → eqb (taskAt c k) t ≡ false → goal t
       elsewhere t f =
           rw f (ap (λ (b : Bool). once b (at t))
-          (further i k t (λ m q. eqb-false (entryAt (c .order) k) t f (ap (entryAt (c .order)) (sym q) ∙ entry-position p c a t m))))
+          (further i k t (λ m q. eqb-false (taskAt c k) t f (ap (taskAt c) (sym q) ∙ entry-position a t m))))
 
   -- the walk from position k on
   walk : (m i k : ℕ) → k + m ≡ p .tasks → ((j : ℕ) → j < k → S j ≤ i) → dispatch p c (drop k (entries c)) (walked i k) ≡ closed i
@@ -283,13 +242,13 @@ module _ (p : Plan) (c : Constraint) (a : Accepted p c) (d : ℕ → ℕ) (posit
 
       goal : Type 0
       goal =
-          cond (hasStarted (walked i k) (entryAt (c .order) k)) (dispatch p c rest (walked i k))
-          (cond (mayStart p c (walked i k) (entryOf c k)) (dispatch p c rest (begin (walked i k) (entryAt (c .order) k))) (walked i k)) ≡ closed i
+          cond (hasStarted (walked i k) (taskAt c k)) (dispatch p c rest (walked i k))
+          (cond (mayStart p c (walked i k) (entryOf c k)) (dispatch p c rest (begin (walked i k) (taskAt c k))) (walked i k)) ≡ closed i
 
       More : Type 0
       More = (k : ℕ) → k + m ≡ p .tasks → ((j : ℕ) → j < k → S j ≤ i) → dispatch p c (drop k (entries c)) (walked i k) ≡ closed i
 
-      started : hasStarted (walked i k) (entryAt (c .order) k) ≡ ltb (S k) i
+      started : hasStarted (walked i k) (taskAt c k) ≡ ltb (S k) i
       started = started-entry i k k low ∙ rw (le-ltb k k (le-refl k), and-false (leb (S k) i)) (or-false (ltb (S k) i))
 
       next : More → S k ≤ i → dispatch p c rest (walked i (suc k)) ≡ closed i
@@ -307,7 +266,7 @@ module _ (p : Plan) (c : Constraint) (a : Accepted p c) (d : ℕ → ℕ) (posit
       later : ltb (S k) i ≡ false → leb (S k) i ≡ false → goal
       later f g =
           rw (started, f, may-entry i k low past (ltb-false (S k) i f), g)
-          (stops i k past (λ j l m. lt-of-lt-of-le (leb-false (S k) i g) (ordered _ (p .tasks) _ 0 (lawful p c a) (durations c d) S (greedy p c a d) j k l m)))
+          (stops i k past (λ j l m. lt-of-lt-of-le (leb-false (S k) i g) (ordered (greedy a d) j k l m)))
 
       go : More → goal
       go more = by-test (ltb (S k) i) (earlier more) (λ f. by-test (leb (S k) i) (now more f) (later f))
@@ -333,10 +292,10 @@ module _ (p : Plan) (c : Constraint) (a : Accepted p c) (d : ℕ → ℕ) (posit
           rw (leb·suc-suc (at t) i, le-ltb (position c t) 0 zero-le, and-false (leb (at t) (suc i)), or-false (leb (at t) i)) refl
 
       ends-noted : (t : ℕ) → ltb t (p .tasks) ≡ true → advance (timeUp d (closed i)) (closed i) .finish t ≡ walked (suc i) 0 .finish t
-      ends-noted t e = by-test (leb F i) past (λ f. by-test (leb F (suc i)) (now f) (later f))
+      ends-noted t e = by-test (leb f′ i) past (λ f. by-test (leb f′ (suc i)) (now f) (later f))
         where
-          F : ℕ
-          F = at t + d t
+          f′ : ℕ
+          f′ = at t + d t
 
           goal : Type 0
           goal = advance (timeUp d (closed i)) (closed i) .finish t ≡ walked (suc i) 0 .finish t
@@ -344,17 +303,17 @@ module _ (p : Plan) (c : Constraint) (a : Accepted p c) (d : ℕ → ℕ) (posit
           long : 1 ≤ d t
           long = positive t (ltb-true t (p .tasks) e)
 
-          past : leb F i ≡ true → goal
-          past f = rw (e, f, le-leb F (suc i) (omega (arith, leb-true F i f)), and-false (given (once (leb (at t) i) (at t)))) refl
+          past : leb f′ i ≡ true → goal
+          past f = rw (e, f, le-leb f′ (suc i) (omega (arith, leb-true f′ i f)), and-false (given (once (leb (at t) i) (at t)))) refl
 
-          now : leb F i ≡ false → leb F (suc i) ≡ true → goal
+          now : leb f′ i ≡ false → leb f′ (suc i) ≡ true → goal
           now f g =
-              let q : F ≡ suc i = omega (arith, leb-false F i f, leb-true F (suc i) g) in
-              rw (e, f, g, le-leb (at t) i (omega (arith, q, long)), eq-eqb F (suc i) q, q) refl
+              let q : f′ ≡ suc i = omega (arith, leb-false f′ i f, leb-true f′ (suc i) g) in
+              rw (e, f, g, le-leb (at t) i (omega (arith, q, long)), eq-eqb f′ (suc i) q, q) refl
 
-          later : leb F i ≡ false → leb F (suc i) ≡ false → goal
+          later : leb f′ i ≡ false → leb f′ (suc i) ≡ false → goal
           later f g =
-              by-test (leb (at t) i) (λ h. rw (e, f, g, h, ne-eqb F (suc i) (λ q. omega (arith, q, leb-false F (suc i) g))) refl)
+              by-test (leb (at t) i) (λ h. rw (e, f, g, h, ne-eqb f′ (suc i) (λ q. omega (arith, q, leb-false f′ (suc i) g))) refl)
               (λ h. rw (e, f, g, h) refl)
 
   pub timed-closed : (i : ℕ) → timed p c d i ≡ closed i
@@ -376,3 +335,7 @@ module _ (p : Plan) (c : Constraint) (a : Accepted p c) (d : ℕ → ℕ) (posit
   start-finish i t s l e =
       ap (λ (n : Notes). n .finish t) (timed-closed i)
       ∙ rw (lt-ltb t (p .tasks) l, once-some (ours t (leb (at t) i)) (at t) s (sym (ap (λ (n : Notes). n .start t) (timed-closed i)) ∙ e)) refl
+
+  -- the task at a position starts at its greedy start
+  pub timed-start : (i k : ℕ) → k < p .tasks → timed p c d i .start (taskAt c k) ≡ once (leb (S k) i) (S k)
+  timed-start i k l = rw (timed-closed i, lt-ltb (taskAt c k) (p .tasks) (a .task k l), position-entry a k l) refl

@@ -12,13 +12,13 @@ use Rattle.task_set.proofs.Bounded.{all-intro, all-elim}
 use Rattle.plan.specs.declared.Plan.{Plan}
 use Rattle.plan.specs.declared.Constraint.{Constraint}
 use Rattle.plan.specs.Rules.{predecessorsOf}
-use Rattle.plan.specs.Refusals.{entryAt}
 use Rattle.plan.proofs.Accepted.{Accepted}
 use Rattle.dispatch_theory.proofs.Greedy.{compare-start}
 use Rattle.runs.specs.Running.{hasFinished, cleared, timed}
 use Rattle.runs.specs.Progress.{Stage, waiting, ready, running, finished, stage, asFar}
-use Rattle.runs.proofs.Positions.{position, position-low}
-use Rattle.runs.proofs.Closed.{durations, startsOf, lawful, greedy, timed-closed, finished-timed}
+use Rattle.runs.proofs.Positions.{taskAt, position, position-low}
+use Rattle.runs.proofs.Orders.{Lasting, startOf, finishOf, lawful, greedy}
+use Rattle.runs.proofs.Closed.{timed-closed, finished-timed}
 
 -- the stage of a task that starts at s and finishes at f, at the instant i
 abbrev at-instant : ℕ → ℕ → ℕ → Bool → Stage
@@ -64,38 +64,32 @@ no-later s f s′ f′ i b b′ l m h =
 
 -- ---- two runs
 
-module _ (p : Plan) (c : Constraint) (a : Accepted p c) where
+module _ {p : Plan} {c : Constraint} (a : Accepted p c) where
   -- the stage of a task in a timed run
-  stage-timed : (d : ℕ → ℕ) (positive : (t : ℕ) → t < p .tasks → 1 ≤ d t) (i t : ℕ) → t < p .tasks
-      → stage p d (timed p c d i) t ≡ at-instant (startsOf p c d (position c t)) (startsOf p c d (position c t) + d t) i (cleared p (timed p c d i) t)
+  stage-timed : (d : ℕ → ℕ) → Lasting p d → (i t : ℕ) → t < p .tasks
+      → stage p d (timed p c d i) t ≡ at-instant (startOf p c d t) (finishOf p c d t) i (cleared p (timed p c d i) t)
   unfolding stage
   stage-timed d positive i t l =
-      rw (timed-closed p c a d positive i, lt-ltb t (p .tasks) l)
-      (by-test (leb F i) (λ e. rw e refl) (λ e. by-test (leb s i) (λ f. rw (e, f) refl) (λ f. rw (e, f) refl)))
-    where
-      s : ℕ
-      s = startsOf p c d (position c t)
+      rw (timed-closed a d positive i, lt-ltb t (p .tasks) l)
+      (by-test (leb (finishOf p c d t) i) (λ e. rw e refl)
+      (λ e. by-test (leb (startOf p c d t) i) (λ f. rw (e, f) refl) (λ f. rw (e, f) refl)))
 
-      F : ℕ
-      F = s + d t
-
-  module _ (d d′ : ℕ → ℕ) (positive : (t : ℕ) → t < p .tasks → 1 ≤ d t) (shorter : (t : ℕ) → t < p .tasks → d t ≤ d′ t) where
-    positive′ : (t : ℕ) → t < p .tasks → 1 ≤ d′ t
+  module _ (d d′ : ℕ → ℕ) (positive : Lasting p d) (shorter : (t : ℕ) → t < p .tasks → d t ≤ d′ t) where
+    positive′ : Lasting p d′
     positive′ t l = le-trans (positive t l) (shorter t l)
 
-    start-no-later : (t : ℕ) → t < p .tasks → startsOf p c d (position c t) ≤ startsOf p c d′ (position c t)
+    start-no-later : (t : ℕ) → t < p .tasks → startOf p c d t ≤ startOf p c d′ t
     start-no-later t l =
-        compare-start _ (p .tasks) _ 0 (lawful p c a) (durations c d) (durations c d′) (startsOf p c d) (startsOf p c d′)
-        (greedy p c a d) (greedy p c a d′) (λ j m. shorter (entryAt (c .order) j) (a .task j m)) (position c t) (position-low p c a t l)
+        compare-start (lawful a) (greedy a d) (greedy a d′) (λ j m. shorter (taskAt c j) (a .task j m)) (position c t) (position-low a t l)
 
-    finish-no-later : (t : ℕ) → t < p .tasks → startsOf p c d (position c t) + d t ≤ startsOf p c d′ (position c t) + d′ t
+    finish-no-later : (t : ℕ) → t < p .tasks → finishOf p c d t ≤ finishOf p c d′ t
     finish-no-later t l = omega (arith, start-no-later t l, shorter t l)
 
     finished-no-later : (i t : ℕ) → hasFinished (timed p c d′ i) t ≡ true → hasFinished (timed p c d i) t ≡ true
     finished-no-later i t e =
-        let f = sym (finished-timed p c a d′ positive′ i t) ∙ e in
+        let f = sym (finished-timed a d′ positive′ i t) ∙ e in
         let l = and-left (ltb t (p .tasks)) _ f in
-        finished-timed p c a d positive i t
+        finished-timed a d positive i t
         ∙ and-both l (le-leb _ i (le-trans (finish-no-later t (ltb-true t (p .tasks) l)) (leb-true _ i (and-right (ltb t (p .tasks)) _ f))))
 
     cleared-no-later : (i t : ℕ) → cleared p (timed p c d′ i) t ≡ true → cleared p (timed p c d i) t ≡ true
@@ -108,4 +102,5 @@ module _ (p : Plan) (c : Constraint) (a : Accepted p c) where
     pub as-far : (i t : ℕ) → t < p .tasks → asFar (stage p d (timed p c d i) t) (stage p d′ (timed p c d′ i) t) ≡ true
     as-far i t l =
         rw (stage-timed d positive i t l, stage-timed d′ positive′ i t l)
-        (no-later _ _ _ _ i (cleared p (timed p c d i) t) (cleared p (timed p c d′ i) t) (start-no-later t l) (finish-no-later t l) (cleared-no-later i t))
+        (no-later _ _ _ _ i (cleared p (timed p c d i) t) (cleared p (timed p c d′ i) t)
+        (start-no-later t l) (finish-no-later t l) (cleared-no-later i t))

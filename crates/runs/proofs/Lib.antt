@@ -1,5 +1,6 @@
 -- The laws and theorems of runs.
 pub mod Positions
+pub mod Orders
 pub mod Closed
 pub mod Compare
 pub mod Response

@@ -1,15 +1,16 @@
 -- The running rules (document 01, "Running rules"), by task number. Assumes nothing.
 use mathlib.Core.Bool.{Bool, true, false, cond, _&&_, not}
+use mathlib.Core.Path.{_≡_}
 use mathlib.Core.List.{List, [], _∷_}
 use mathlib.Core.Option.{Option, none, some}
-use Prim.Native.Nat.{ℕ, zero, suc, _+_, _≤_, _<_}
+use Prim.Native.Nat.{ℕ, zero, suc, _+_, _<_}
 use lib.Dec.{eqb, ltb}
 use lib.ListN.{getD}
 use Rattle.task_set.specs.Bounded.{all, count, implies, tabulate}
 use Rattle.task_set.specs.Sets.{width, has}
 use Rattle.plan.specs.declared.Plan.{Plan}
 use Rattle.plan.specs.declared.Constraint.{Constraint}
-use Rattle.plan.specs.Rules.{timeOf, predecessorsOf}
+use Rattle.plan.specs.Rules.{between, timeOf, predecessorsOf}
 use Rattle.plan.specs.Refusals.{entryAt}
 use Rattle.dispatch_theory.specs.Sums.{sum, greatest}
 
@@ -38,9 +39,15 @@ best p c t = timeOf (p .bcet) t (typeOf c t)
 unfoldable pub worst : Plan → Constraint → ℕ → ℕ
 worst p c t = timeOf (p .wcet) t (typeOf c t)
 
--- "each task's time within the plan's best and worst for its chosen type" (demand 3)
+-- the times that a task may take: "within the plan's best and worst for its chosen type" (demand 3)
+abbrev pub leastTime : Plan → Constraint → ℕ → ℕ
+leastTime p c t = best p c t
+
+unfoldable pub allowed : Plan → Constraint → ℕ → ℕ → Bool
+allowed p c t x = between (leastTime p c t) x (worst p c t)
+
 abbrev pub Allowed : Plan → Constraint → (ℕ → ℕ) → Type 0
-Allowed p c d = (t : ℕ) → t < p .tasks → (best p c t ≤ d t) × (d t ≤ worst p c t)
+Allowed p c d = (t : ℕ) → t < p .tasks → allowed p c t (d t) ≡ true
 
 -- ---- the notes of a run: the instant, and each task's start and finish instant once it has one
 
@@ -130,9 +137,13 @@ timed p c d (suc i) = let n = timed p c d i in step p c (timeUp d n) n
 unfoldable pub over : Plan → Notes → Bool
 over p n = all (p .tasks) (hasFinished n)
 
--- the notes of the run when it is over: every run is, by the sum of its times
+-- every run is over by then
+unfoldable pub horizon : Plan → (ℕ → ℕ) → ℕ
+horizon p d = sum (p .tasks) d
+
+-- the notes of the run when it is over
 unfoldable pub ended : Plan → Constraint → (ℕ → ℕ) → Notes
-ended p c d = timed p c d (sum (p .tasks) d)
+ended p c d = timed p c d (horizon p d)
 
 -- "its response is its greatest finish"
 unfoldable pub response : Plan → Constraint → (ℕ → ℕ) → ℕ

@@ -11,7 +11,8 @@ use lib.Dec.{eqb, ltb}
 use lib.ListN.{getD, set, replicate, length-set, length-replicate}
 use lib.Seq.{getD-set-same, getD-set-other}
 use Rattle.task_set.specs.Bounded.{tabulate}
-use Rattle.task_set.proofs.Truth.{by-test, same}
+use Rattle.task_set.proofs.Truth.{by-test}
+use Rattle.task_set.proofs.Bounded.{other-below}
 use Rattle.task_set.proofs.Search.{first-is}
 use Rattle.task_set.proofs.Tables.{tabulate-cong, replicate-tabulate, set-tabulate, getD-tabulate}
 use Rattle.plan.specs.declared.Plan.{Plan}
@@ -19,16 +20,17 @@ use Rattle.plan.specs.declared.Constraint.{Constraint}
 use Rattle.plan.specs.Rules.{mostTasks, timeOf}
 use Rattle.plan.specs.Refusals.{entryAt}
 use Rattle.plan.proofs.Accepted.{Accepted}
-use Rattle.runs.proofs.Positions.{position, position-entry, position-low, position-absent}
+use Rattle.runs.proofs.Positions.{taskAt, position, position-entry, position-low, position-absent}
 use Rattle.simulation.specs.Simulated.{timeIn}
-use Rattle.simulation.specs.Steps.{Distinct, ChosenTimes}
+use Rattle.plan.specs.Steps.{Positions}
+use Rattle.simulation.specs.Steps.{ChosenTimes}
 
 -- ---- the times of the chosen types
 
 pub chosen-none : {times order chosen : List ℕ} → ChosenTimes times order chosen 0 (replicate mostTasks 0)
 chosen-none = record { whole = length-replicate {A = ℕ} mostTasks 0; at-position = λ i l. absurd (not-suc-le-zero l) }
 
-pub chosen-more : {times order chosen byTask : List ℕ} {n k v : ℕ} → Distinct order n → k < n → ChosenTimes times order chosen k byTask
+pub chosen-more : {times order chosen byTask : List ℕ} {n k v : ℕ} → Positions order chosen n → k < n → ChosenTimes times order chosen k byTask
     → v ≡ timeOf times (entryAt order k) (entryAt chosen k) → ChosenTimes times order chosen (k + 1) (set byTask (entryAt order k) v)
 chosen-more {times} {order} {chosen} {byTask} {n} {k} {v} o l h e =
     record {
@@ -40,7 +42,7 @@ chosen-more {times} {order} {chosen} {byTask} {n} {k} {v} o l h e =
     written = set byTask (entryAt order k) v
 
     here : timeIn written (entryAt order k) ≡ timeOf times (entryAt order k) (entryAt chosen k)
-    here = getD-set-same byTask (entryAt order k) v 0 (rw (h .whole) (lt-of-lt-of-le (o .low k l) (o .few))) ∙ e
+    here = getD-set-same byTask (entryAt order k) v 0 (rw (h .whole) (lt-of-lt-of-le (o .task k l) (o .few))) ∙ e
 
     before : (i : ℕ) → i < k → timeIn written (entryAt order i) ≡ timeOf times (entryAt order i) (entryAt chosen i)
     before i m =
@@ -60,32 +62,27 @@ tabled-none c f =
     replicate-tabulate mostTasks 0
     ∙ tabulate-cong mostTasks _ _ (λ t l. sym (ap (λ (b : Bool). cond b (f t) 0) (le-ltb (position c t) 0 zero-le)))
 
-module _ (p : Plan) (c : Constraint) (a : Accepted p c) (f : ℕ → ℕ) where
-  pub tabled-at : (k j : ℕ) → j < k → k ≤ p .tasks → getD (tabled c k f) (entryAt (c .order) j) 0 ≡ f (entryAt (c .order) j)
+module _ {p : Plan} {c : Constraint} (a : Accepted p c) (f : ℕ → ℕ) where
+  pub tabled-at : (k j : ℕ) → j < k → k ≤ p .tasks → getD (tabled c k f) (taskAt c j) 0 ≡ f (taskAt c j)
   tabled-at k j l m =
       let n : j < p .tasks = lt-of-lt-of-le l m in
-      getD-tabulate mostTasks _ (entryAt (c .order) j) 0 (lt-of-lt-of-le (a .task j n) (a .few-tasks))
-      ∙ rw (position-entry p c a j n, lt-ltb j k l) refl
+      getD-tabulate mostTasks _ (taskAt c j) 0 (lt-of-lt-of-le (a .task j n) (a .few-tasks))
+      ∙ rw (position-entry a j n, lt-ltb j k l) refl
 
-  pub tabled-more : (k : ℕ) → k < p .tasks → set (tabled c k f) (entryAt (c .order) k) (f (entryAt (c .order) k)) ≡ tabled c (suc k) f
+  pub tabled-more : (k : ℕ) → k < p .tasks → set (tabled c k f) (taskAt c k) (f (taskAt c k)) ≡ tabled c (suc k) f
   tabled-more k l =
-      ap (set (tabled c k f) (entryAt (c .order) k)) (sym here)
-      ∙ set-tabulate mostTasks (λ t. cond (ltb (position c t) k) (f t) 0) (λ t. cond (ltb (position c t) (suc k)) (f t) 0) (entryAt (c .order) k)
-      (λ t q. ap (λ (b : Bool). cond b (f t) 0) (others t (λ e. q (stands t e))))
+      ap (set (tabled c k f) (taskAt c k)) (sym here)
+      ∙ set-tabulate mostTasks (λ t. cond (ltb (position c t) k) (f t) 0) (λ t. cond (ltb (position c t) (suc k)) (f t) 0) (taskAt c k)
+      (λ t q. ap (λ (b : Bool). cond b (f t) 0) (other-below (position c t) k (λ e. q (stands t e))))
     where
-      here : cond (ltb (position c (entryAt (c .order) k)) (suc k)) (f (entryAt (c .order) k)) 0 ≡ f (entryAt (c .order) k)
-      here = rw (position-entry p c a k l, lt-ltb k (suc k) (lt-suc-self k)) refl
+      here : cond (ltb (position c (taskAt c k)) (suc k)) (f (taskAt c k)) 0 ≡ f (taskAt c k)
+      here = rw (position-entry a k l, lt-ltb k (suc k) (lt-suc-self k)) refl
 
       -- a task at position k is the one that stands there
-      stands : (t : ℕ) → position c t ≡ k → t ≡ entryAt (c .order) k
+      stands : (t : ℕ) → position c t ≡ k → t ≡ taskAt c k
       stands t e =
           let r : position c t < c .len = omega (arith, a .whole) in
-          sym (eqb-true _ t (first-is (c .len) (λ i. eqb (entryAt (c .order) i) t) .passes r)) ∙ ap (entryAt (c .order)) e
-
-      others : (t : ℕ) → (position c t ≡ k → ⊥) → ltb (position c t) k ≡ ltb (position c t) (suc k)
-      others t q =
-          same (ltb (position c t) k) (ltb (position c t) (suc k)) (λ e. lt-ltb (position c t) (suc k) (omega (arith, ltb-true (position c t) k e)))
-          (λ e. lt-ltb (position c t) k (omega (arith, q, ltb-true (position c t) (suc k) e)))
+          sym (eqb-true _ t (first-is (c .len) (λ i. eqb (taskAt c i) t) .passes r)) ∙ ap (taskAt c) e
 
   -- at the end each task of the plan has its value
   pub tabled-all : tabled c (p .tasks) f ≡ tabulate mostTasks (λ t. cond (ltb t (p .tasks)) (f t) 0)
@@ -93,5 +90,5 @@ module _ (p : Plan) (c : Constraint) (a : Accepted p c) (f : ℕ → ℕ) where
     where
       within : (t : ℕ) → ltb (position c t) (p .tasks) ≡ ltb t (p .tasks)
       within t =
-          by-test (ltb t (p .tasks)) (λ e. rw e (lt-ltb _ _ (position-low p c a t (ltb-true t (p .tasks) e))))
-          (λ e. rw e (le-ltb _ _ (le-of-eq (sym (position-absent p c a t (ltb-false t (p .tasks) e))))))
+          by-test (ltb t (p .tasks)) (λ e. rw e (lt-ltb _ _ (position-low a t (ltb-true t (p .tasks) e))))
+          (λ e. rw e (le-ltb _ _ (le-of-eq (sym (position-absent a t (ltb-false t (p .tasks) e))))))

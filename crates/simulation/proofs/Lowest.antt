@@ -56,10 +56,10 @@ module _ {n : ℕ} {order : List ℕ} {fails : ℕ → Bool} where
   lowest-end {r = r} o e = subst (λ (x : ℕ). LowestOf n order fails x r) e o
 
 -- of all positions: the first task that fails
-pub lowest-all : (p : Plan) (c : Constraint) → Accepted p c → {fails : ℕ → Bool} (q : ℕ → Bool)
+pub lowest-all : {p : Plan} {c : Constraint} → Accepted p c → {fails : ℕ → Bool} (q : ℕ → Bool)
     → ((i : ℕ) → i < p .tasks → q (entryAt (c .order) i) ≡ fails i)
     → {r : ℕ} → LowestOf (p .tasks) (c .order) fails (p .tasks) r → r ≡ first (p .tasks) q
-lowest-all p c a q h {r} o =
+lowest-all {p} a q h {r} o =
     first-unique (p .tasks) q r
     (record {
       searched = record {

@@ -22,39 +22,33 @@ use Rattle.plan.specs.declared.Constraint.{Constraint}
 use Rattle.plan.specs.Rules.{mostTypes, mostUnits, mostTasks, longestTime, predecessorsOf}
 use Rattle.plan.specs.Refusals.{entryAt}
 use Rattle.plan.proofs.Accepted.{Accepted}
-use Rattle.dispatch_theory.specs.Greedy.{ends, after}
+use Rattle.dispatch_theory.proofs.Greedy.{ends, after}
+use Rattle.dispatch_theory.proofs.Units.{Booked, booked-none, booked-more, start-is, open-now}
 use Rattle.dispatch_theory.specs.Sums.{sum, greatest}
 use Rattle.dispatch_theory.proofs.Sums.{sum-le, greatest-lub, greatest-le, greatest-cong}
 use Rattle.dispatch_theory.proofs.Reorder.{greatest-reorder}
-use Rattle.runs.specs.Running.{orZero, ended, response}
-use Rattle.runs.proofs.Positions.{position, position-entry}
-use Rattle.runs.proofs.Closed.{orderOf, durations, startsOf, greedy, timed-closed}
-use Rattle.runs.proofs.Response.{finish-by, ended-start, ended-finish, response-finish}
+use Rattle.runs.specs.Running.{orZero, horizon, ended, response}
+use Rattle.runs.proofs.Positions.{taskAt, typeAt, position, position-entry}
+use Rattle.runs.proofs.Orders.{orderOf, Lasting, durations, startsOf, startOf, finishOf, greedy}
+use Rattle.runs.proofs.Closed.{timed-closed}
+use Rattle.runs.proofs.Response.{ends-by, ended-start, ended-finish, response-ends}
 use Rattle.simulation.specs.Simulated.{ran}
 use Rattle.simulation.specs.Steps.{latestOf, unitIndex, freeFrom, FreeFirst}
-use Rattle.simulation.proofs.Units.{Booked, booked-none, booked-more, start-is, waited-then}
 use Rattle.simulation.proofs.ByTask.{tabled, tabled-none, tabled-more, tabled-at, tabled-all}
-
--- the start and the finish of a task
-abbrev startAt : Plan → Constraint → (ℕ → ℕ) → ℕ → ℕ
-startAt p c d t = startsOf p c d (position c t)
-
-abbrev finishAt : Plan → Constraint → (ℕ → ℕ) → ℕ → ℕ
-finishAt p c d t = startAt p c d t + d t
 
 -- the loop has come to position k: the positions before it have started and finish, and hold their units;
 -- the tasks of `past` have finished by the last start
 pub record Reached (p : Plan) (c : Constraint) (d : ℕ → ℕ) (k last past response : ℕ) (starts finishes free : List ℕ) : Type 0 where
   pub within : k ≤ p .tasks
   pub last-is : last ≡ after (startsOf p c d) k
-  pub past-over : (j : ℕ) → j < p .tasks → has past (entryAt (c .order) j) ≡ true → ends (startsOf p c d) (durations c d) j ≤ after (startsOf p c d) k
+  pub past-over : (j : ℕ) → j < p .tasks → has past (taskAt c j) ≡ true → ends (startsOf p c d) (durations c d) j ≤ after (startsOf p c d) k
   pub response-is : response ≡ greatest k (ends (startsOf p c d) (durations c d))
-  pub starts-are : starts ≡ tabled c k (startAt p c d)
-  pub finishes-are : finishes ≡ tabled c k (finishAt p c d)
+  pub starts-are : starts ≡ tabled c k (startOf p c d)
+  pub finishes-are : finishes ≡ tabled c k (finishOf p c d)
   pub room : length free ≡ mostTypes * mostUnits
-  pub booked : Booked (orderOf p c) (p .types) (durations c d) (startsOf p c d) k (after (startsOf p c d) k) (freeFrom free)
+  pub booked : Booked (orderOf p c) (p .types) (ends (startsOf p c d) (durations c d)) k (after (startsOf p c d) k) (freeFrom free)
 
-module _ (p : Plan) (c : Constraint) (a : Accepted p c) (d : ℕ → ℕ) (positive : (t : ℕ) → t < p .tasks → 1 ≤ d t) where
+module _ {p : Plan} {c : Constraint} (a : Accepted p c) (d : ℕ → ℕ) (positive : Lasting p d) where
   -- the starts and the times by position
   abbrev S : ℕ → ℕ
   S = startsOf p c d
@@ -72,29 +66,29 @@ module _ (p : Plan) (c : Constraint) (a : Accepted p c) (d : ℕ → ℕ) (posit
       record {
         within = zero-le;
         last-is = refl;
-        past-over = λ j l h. absurd (clash h (has-none (entryAt (c .order) j)));
+        past-over = λ j l h. absurd (clash h (has-none (taskAt c j)));
         response-is = refl;
-        starts-are = tabled-none c (startAt p c d);
-        finishes-are = tabled-none c (finishAt p c d);
+        starts-are = tabled-none c (startOf p c d);
+        finishes-are = tabled-none c (finishOf p c d);
         room = length-replicate {A = ℕ} (mostTypes * mostUnits) 0;
-        booked = booked-none (orderOf p c) (p .types) D S _ (λ ty u l m. getD-replicate (mostTypes * mostUnits) (unitIndex ty u) 0 0 (unit-low ty u l m));
+        booked = booked-none (orderOf p c) (p .types) (ends S D) _ (λ ty u l m. getD-replicate (mostTypes * mostUnits) (unitIndex ty u) 0 0 (unit-low ty u l m));
       }
 
   -- ---- the next position
 
   module _ {k last past response : ℕ} {starts finishes free : List ℕ} (r : Reached p c d k last past response starts finishes free) (low : k < p .tasks)
-      {index : ℕ} (f : FreeFirst free (entryAt (c .chosen) k) (getD (p .units) (entryAt (c .chosen) k) 0) index) where
+      {index : ℕ} (f : FreeFirst free (typeAt c k) (getD (p .units) (typeAt c k) 0) index) where
     abbrev t : ℕ
-    t = entryAt (c .order) k
+    t = taskAt c k
 
     abbrev ty : ℕ
-    ty = entryAt (c .chosen) k
+    ty = typeAt c k
 
     -- the positions before have their finishes
-    finish-known : (j : ℕ) → j < k → getD finishes (entryAt (c .order) j) 0 ≡ ends S D j
+    finish-known : (j : ℕ) → j < k → getD finishes (taskAt c j) 0 ≡ ends S D j
     finish-known j l =
-        ap (λ (xs : List ℕ). getD xs (entryAt (c .order) j) 0) (r .finishes-are) ∙ tabled-at p c a (finishAt p c d) k j l (r .within)
-        ∙ ap (λ (i : ℕ). S i + D j) (position-entry p c a j (lt-trans l low))
+        ap (λ (xs : List ℕ). getD xs (taskAt c j) 0) (r .finishes-are) ∙ tabled-at a (finishOf p c d) k j l (r .within)
+        ∙ ap (λ (i : ℕ). S i + D j) (position-entry a j (lt-trans l low))
 
     -- its predecessors, and those that are looked at
     abbrev needed : ℕ
@@ -104,13 +98,13 @@ module _ (p : Plan) (c : Constraint) (a : Accepted p c) (d : ℕ → ℕ) (posit
     of-set u = cond (has (without needed past) u) (getD finishes u 0) 0
 
     -- a predecessor stands before, and has finished by the start
-    over : (j : ℕ) → j < p .tasks → has needed (entryAt (c .order) j) ≡ true → ends S D j ≤ S k
+    over : (j : ℕ) → j < p .tasks → has needed (taskAt c j) ≡ true → ends S D j ≤ S k
     over j m h =
-        let i = a .earlier k (entryAt (c .order) j) low (lt-of-lt-of-le (a .task j m) (a .few-tasks)) h in
-        waited-then (orderOf p c) (p .tasks) D S (greedy p c a d) k low j (omega (arith, i .1, a .once (i .0) j (lt-trans (i .1) low) m (i .2))) h
+        let i = a .earlier k (taskAt c j) low (lt-of-lt-of-le (a .task j m) (a .few-tasks)) h in
+        open-now (orderOf p c) (greedy a d) k low .waited j (omega (arith, i .1, a .once (i .0) j (lt-trans (i .1) low) m (i .2))) h
 
     -- a predecessor that is not looked at is past
-    waited : (j : ℕ) → j < k → has needed (entryAt (c .order) j) ≡ true → ends S D j ≤ max (after S k) (latestOf finishes (without needed past))
+    waited : (j : ℕ) → j < k → has needed (taskAt c j) ≡ true → ends S D j ≤ max (after S k) (latestOf finishes (without needed past))
     unfolding latestOf
     waited j l h =
         let m : j < p .tasks = lt-trans l low in
@@ -119,7 +113,7 @@ module _ (p : Plan) (c : Constraint) (a : Accepted p c) (d : ℕ → ℕ) (posit
         le-trans (omega (arith, q, greatest-le width of-set u (lt-of-lt-of-le (a .task j m) (a .few-tasks)))) (le-max-right _ _))
       where
         u : ℕ
-        u = entryAt (c .order) j
+        u = taskAt c j
 
     -- what is looked at has finished by the start
     looked-over : latestOf finishes (without needed past) ≤ S k
@@ -138,8 +132,8 @@ module _ (p : Plan) (c : Constraint) (a : Accepted p c) (d : ℕ → ℕ) (posit
         → start ≡ max behind (getD free index 0) → start ≡ S k
     next-start ep el ew eb es =
         rw (es, eb, ew, el, ep, r .last-is, f .index-is)
-        (start-is (orderOf p c) (p .types) (p .tasks) D S (greedy p c a d) k low (a .type k low) (freeFrom free) (r .booked)
-        (f .unit) (f .low) (f .least) _ waited looked-over)
+        (start-is (orderOf p c) (greedy a d) k low (p .types) (a .type k low) (freeFrom free) (r .booked) (f .unit) (f .low) (f .least)
+        _ waited looked-over)
 
     -- the unit has its place
     index-low : index < length free
@@ -163,28 +157,28 @@ module _ (p : Plan) (c : Constraint) (a : Accepted p c) (d : ℕ → ℕ) (posit
           last-is = es;
           past-over = past-here;
           response-is = el ∙ ap₂ max (r .response-is) finish-is;
-          starts-are = ap₂ (λ (xs : List ℕ) (y : ℕ). set xs t y) (r .starts-are) (es ∙ sym (ap S here)) ∙ tabled-more p c a (startAt p c d) k low;
+          starts-are = ap₂ (λ (xs : List ℕ) (y : ℕ). set xs t y) (r .starts-are) (es ∙ sym (ap S here)) ∙ tabled-more a (startOf p c d) k low;
           finishes-are = ap₂ (λ (xs : List ℕ) (y : ℕ). set xs t y) (r .finishes-are) (finish-is ∙ ap (λ (i : ℕ). S i + d t) (sym here))
-              ∙ tabled-more p c a (finishAt p c d) k low;
+              ∙ tabled-more a (finishOf p c d) k low;
           room = length-set free index (start + time) ∙ r .room;
           booked = booked-here;
         })
       where
         here : position c t ≡ k
-        here = position-entry p c a k low
+        here = position-entry a k low
 
         finish-is : start + time ≡ ends S D k
         finish-is = ap₂ _+_ es et
 
-        past-here : (j : ℕ) → j < p .tasks → has (bitOr past s) (entryAt (c .order) j) ≡ true → ends S D j ≤ S k
+        past-here : (j : ℕ) → j < p .tasks → has (bitOr past s) (taskAt c j) ≡ true → ends S D j ≤ S k
         past-here j m h =
-            ⊎-elim (λ g. le-trans (r .past-over j m g) (greedy p c a d .order k low)) (λ g. over j m (rw ep at g))
-            (or-cases _ _ (sym (has-or (entryAt (c .order) j) past s) ∙ h))
+            ⊎-elim (λ g. le-trans (r .past-over j m g) (greedy a d .order k low)) (λ g. over j m (rw ep at g))
+            (or-cases _ _ (sym (has-or (taskAt c j) past s) ∙ h))
 
-        booked-here : Booked (orderOf p c) (p .types) D S (suc k) (after S (suc k)) (freeFrom (set free index (start + time)))
+        booked-here : Booked (orderOf p c) (p .types) (ends S D) (suc k) (after S (suc k)) (freeFrom (set free index (start + time)))
         booked-here =
-            booked-more (orderOf p c) (p .types) (p .tasks) D S (greedy p c a d) k low (a .type k low) (freeFrom free) (r .booked)
-            (f .unit) (f .low) (f .least) (freeFrom (set free index (start + time)))
+            booked-more (orderOf p c) (greedy a d) k low (p .types) (a .type k low) (freeFrom free) (r .booked) (f .unit) (f .low) (f .least)
+            (freeFrom (set free index (start + time)))
             (ap (λ (i : ℕ). getD (set free index (start + time)) i 0) (sym (f .index-is)) ∙ getD-set-same free index (start + time) 0 index-low ∙ finish-is)
             (kept (start + time))
 
@@ -192,47 +186,34 @@ module _ (p : Plan) (c : Constraint) (a : Accepted p c) (d : ℕ → ℕ) (posit
 
   -- no finish is later than the longest times of the most tasks one after the other
   pub finish-short : ((t : ℕ) → t < p .tasks → d t ≤ longestTime) → (k : ℕ) → k < p .tasks → S k + D k ≤ mostTasks * longestTime
-  finish-short short k l =
-      omega (
-        arith,
-        finish-by p c a d positive (entryAt (c .order) k) (a .task k l),
-        ap (λ (i : ℕ). S i + D k) (position-entry p c a k l),
-        sum-le (p .tasks) d longestTime short,
-        a .few-tasks,
-      )
-
-  -- the response is the greatest finish, by position
-  response-at-end : response p c d ≡ greatest (p .tasks) (ends S D)
-  response-at-end =
-      response-finish p c a d positive
-      ∙ sym (greatest-reorder (p .tasks) (entryAt (c .order)) (finishAt p c d) (a .task) (a .somewhere))
-      ∙ greatest-cong (p .tasks) _ (ends S D) (λ j l. ap (λ (i : ℕ). S i + D j) (position-entry p c a j l))
+  unfolding horizon
+  finish-short short k l = omega (arith, ends-by a d positive k l, sum-le (p .tasks) d longestTime short, a .few-tasks)
 
   -- what the notes of the run have when it is over; a task that is not of the plan has none
-  ended-starts : (t : ℕ) → cond (ltb t (p .tasks)) (startAt p c d t) 0 ≡ orZero (ended p c d .start t)
+  ended-starts : (t : ℕ) → cond (ltb t (p .tasks)) (startOf p c d t) 0 ≡ orZero (ended p c d .start t)
   unfolding ended
   ended-starts t =
-      by-test (ltb t (p .tasks)) (λ e. rw (e, ended-start p c a d positive t (ltb-true t (p .tasks) e)) refl)
-      (λ e. rw (timed-closed p c a d positive (sum (p .tasks) d), e) refl)
+      by-test (ltb t (p .tasks)) (λ e. rw (e, ended-start a d positive t (ltb-true t (p .tasks) e)) refl)
+      (λ e. rw (timed-closed a d positive (horizon p d), e) refl)
 
-  ended-finishes : (t : ℕ) → cond (ltb t (p .tasks)) (finishAt p c d t) 0 ≡ orZero (ended p c d .finish t)
+  ended-finishes : (t : ℕ) → cond (ltb t (p .tasks)) (finishOf p c d t) 0 ≡ orZero (ended p c d .finish t)
   unfolding ended
   ended-finishes t =
-      by-test (ltb t (p .tasks)) (λ e. rw (e, ended-finish p c a d positive t (ltb-true t (p .tasks) e)) refl)
-      (λ e. rw (timed-closed p c a d positive (sum (p .tasks) d), e) refl)
+      by-test (ltb t (p .tasks)) (λ e. rw (e, ended-finish a d positive t (ltb-true t (p .tasks) e)) refl)
+      (λ e. rw (timed-closed a d positive (horizon p d), e) refl)
 
   pub reached-end : {k last past response : ℕ} {starts finishes free : List ℕ} → Reached p c d k last past response starts finishes free → p .tasks ≤ k
       → record { number = 0; place = 0; response = response; starts = starts; finishes = finishes } ≡ ran p c d
   unfolding ran
   reached-end {k} r l =
       rw (
-        r .response-is ∙ ap (λ (n : ℕ). greatest n (ends S D)) all ∙ sym response-at-end,
-        r .starts-are ∙ filled (startAt p c d) (λ t. orZero (ended p c d .start t)) ended-starts,
-        r .finishes-are ∙ filled (finishAt p c d) (λ t. orZero (ended p c d .finish t)) ended-finishes,
+        r .response-is ∙ ap (λ (n : ℕ). greatest n (ends S D)) all ∙ sym (response-ends a d positive),
+        r .starts-are ∙ filled (startOf p c d) (λ t. orZero (ended p c d .start t)) ended-starts,
+        r .finishes-are ∙ filled (finishOf p c d) (λ t. orZero (ended p c d .finish t)) ended-finishes,
       ) refl
     where
       all : k ≡ p .tasks
       all = omega (arith, r .within)
 
       filled : (f g : ℕ → ℕ) → ((t : ℕ) → cond (ltb t (p .tasks)) (f t) 0 ≡ g t) → tabled c k f ≡ tabulate mostTasks g
-      filled f g h = ap (λ (n : ℕ). tabled c n f) all ∙ tabled-all p c a f ∙ tabulate-cong mostTasks _ g (λ t m. h t)
+      filled f g h = ap (λ (n : ℕ). tabled c n f) all ∙ tabled-all a f ∙ tabulate-cong mostTasks _ g (λ t m. h t)

@@ -8,18 +8,18 @@ use Rattle.task_set.specs.Bounded.{tabulate}
 use Rattle.plan.specs.declared.Plan.{Plan}
 use Rattle.plan.specs.declared.Constraint.{Constraint}
 use Rattle.plan.specs.declared.Verdict.{Verdict}
-use Rattle.plan.specs.Rules.{mostTasks, between}
+use Rattle.plan.specs.Rules.{mostTasks}
 use Rattle.plan.specs.Refusals.{refused, accepted, unlessAt, firstRefusal, verdict}
-use Rattle.runs.specs.Running.{best, worst, orZero, ended, response}
+use Rattle.runs.specs.Running.{worst, allowed, orZero, ended, response}
 use Rattle.simulation.specs.declared.Simulation.{Simulation}
 
 -- "one time for each task, by task number"
 abbrev pub timeIn : List ℕ → ℕ → ℕ
 timeIn times t = getD times t 0
 
--- 18: "a time outside best to worst of the chosen type"
+-- 18: "a time outside best to worst of the chosen type", one that the task may not take
 unfoldable pub outside : Plan → Constraint → List ℕ → ℕ → Bool
-outside p c times t = not (between (best p c t) (timeIn times t) (worst p c t))
+outside p c times t = not (allowed p c t (timeIn times t))
 
 -- 17: "the count of times is not the number of tasks, place that count"; 18, "place the lowest such task"
 unfoldable pub timesVerdict : Plan → Constraint → List ℕ → Verdict

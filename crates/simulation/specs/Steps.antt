@@ -7,18 +7,13 @@ use lib.ListN.{length, getD}
 use Rattle.task_set.specs.Sets.{width, has}
 use Rattle.plan.specs.declared.Plan.{Plan}
 use Rattle.plan.specs.Rules.{mostUnits, mostTasks, longestTime, timeOf, between}
-use Rattle.plan.specs.Refusals.{entryAt, planOf, constraintOf, verdict}
+use Rattle.plan.specs.declared.Constraint.{Constraint}
+use Rattle.plan.specs.Refusals.{entryAt, verdict}
 use Rattle.dispatch_theory.specs.Sums.{greatest}
 use Rattle.simulation.specs.declared.Simulation.{Simulation}
 use Rattle.simulation.specs.Simulated.{timeIn, ran}
 
 -- ---- times by task number
-
--- the first n entries of an order are tasks below n, no two the same
-pub record Distinct (order : List ℕ) (n : ℕ) : Type 0 where
-  pub few : n ≤ mostTasks
-  pub low : (i : ℕ) → i < n → entryAt order i < n
-  pub once : (i j : ℕ) → i < n → j < n → entryAt order i ≡ entryAt order j → i ≡ j
 
 -- the task at each of the first n positions has the time of its chosen type
 pub record ChosenTimes (times order chosen : List ℕ) (n : ℕ) (byTask : List ℕ) : Type 0 where
@@ -58,30 +53,17 @@ pub record FreeFirst (free : List ℕ) (ty n index : ℕ) : Type 0 where
   pub index-is : index ≡ unitIndex ty unit
   pub least : (u : ℕ) → u < n → freeFrom free ty unit ≤ freeFrom free ty u
 
--- what the run is not handed: the rest of the plan, and the time of each task as a function, of which it has a list
-pub record Rest : Type 0 where
-  pub types : ℕ
-  pub bcet : List ℕ
-  pub wcet : List ℕ
-  pub time : ℕ → ℕ
+-- the check takes the plan and the constraint, and the times are there and in range
+pub record Runnable (p : Plan) (c : Constraint) (times : List ℕ) : Type 0 where
+  pub checked : verdict p c .number ≡ 0
+  pub enough : p .tasks ≤ length times
+  pub some : (t : ℕ) → t < p .tasks → 1 ≤ timeIn times t
+  pub short : (t : ℕ) → t < p .tasks → timeIn times t ≤ longestTime
 
-abbrev pub planWith : Rest → List ℕ → List ℕ → ℕ → Plan
-planWith w units predecessors tasks = planOf (w .types) units tasks (w .bcet) (w .wcet) predecessors
+-- d are the times listed
+abbrev pub Listed : Plan → List ℕ → (ℕ → ℕ) → Type 0
+Listed p times d = (t : ℕ) → t < p .tasks → timeIn times t ≡ d t
 
--- the check takes the plan and the constraint, and the times handed over are those that the tasks take
-pub record Ready (w : Rest) (units predecessors : List ℕ) (tasks : ℕ) (order chosen times : List ℕ) : Type 0 where
-  pub taken : verdict (planWith w units predecessors tasks) (constraintOf tasks order chosen) .number ≡ 0
-  pub enough : tasks ≤ length times
-  pub times-are : (t : ℕ) → t < tasks → timeIn times t ≡ w .time t
-  pub some : (t : ℕ) → t < tasks → 1 ≤ w .time t
-  pub short : (t : ℕ) → t < tasks → w .time t ≤ longestTime
-
--- a plan and a constraint with these parts are ready
-abbrev pub Runnable : List ℕ → List ℕ → ℕ → List ℕ → List ℕ → List ℕ → Type 0
-Runnable units predecessors tasks order chosen times = (w : Rest) × Ready w units predecessors tasks order chosen times
-
--- r is the run of each plan and constraint with these parts that are ready
-abbrev pub RunOf : List ℕ → List ℕ → ℕ → List ℕ → List ℕ → List ℕ → Simulation → Type 0
-RunOf units predecessors tasks order chosen times r =
-    (w : Rest) → Ready w units predecessors tasks order chosen times
-    → r ≡ ran (planWith w units predecessors tasks) (constraintOf tasks order chosen) (w .time)
+-- r is the run with the times listed
+abbrev pub RunOf : Plan → Constraint → List ℕ → Simulation → Type 0
+RunOf p c times r = (d : ℕ → ℕ) → Listed p times d → r ≡ ran p c d

@@ -39,23 +39,11 @@ fn not_run(number: u32, place: usize) -> Simulation
 pub fn simulate(p: Plan, c: Constraint, times: &[u32]) -> Simulation
     ensures { λ r. ⌜ r ≡ simulated p c (now (times .entry)) ⌝ }
 {
-    let types = p.types;
-    let tasks = p.tasks;
-    let len = c.len;
-    let v = plan::check_parts(
-        types,
-        &p.units,
-        tasks,
-        &p.bcet,
-        &p.wcet,
-        &p.predecessors,
-        len,
-        &c.order,
-        &c.chosen,
-    );
+    let v = plan::check(p, c);
     if v.number != 0 {
         return not_run(v.number, v.place);
     }
+    let tasks = p.tasks;
     if times.len() != tasks {
         return not_run(17, times.len());
     }
@@ -63,37 +51,18 @@ pub fn simulate(p: Plan, c: Constraint, times: &[u32]) -> Simulation
     if outside < tasks {
         return not_run(18, outside);
     }
-    run(&p.units, &p.predecessors, tasks, &c.order, &c.chosen, times)
+    run(p, c, times)
 }
 
 // The run with the worst times of the chosen types: its response is the bound, at most the sum of these times.
 pub fn bound(p: Plan, c: Constraint) -> Simulation
     ensures { λ r. ⌜ (r ≡ worstCase p c) × (r .response ≤ sum (p .tasks) (worst p c)) ⌝ }
 {
-    let types = p.types;
-    let tasks = p.tasks;
-    let len = c.len;
-    let v = plan::check_parts(
-        types,
-        &p.units,
-        tasks,
-        &p.bcet,
-        &p.wcet,
-        &p.predecessors,
-        len,
-        &c.order,
-        &c.chosen,
-    );
+    let v = plan::check(p, c);
     if v.number != 0 {
         return not_run(v.number, v.place);
     }
+    let tasks = p.tasks;
     let worst = chosen_times(&p.wcet, &c.order, &c.chosen, tasks);
-    run(
-        &p.units,
-        &p.predecessors,
-        tasks,
-        &c.order,
-        &c.chosen,
-        &worst,
-    )
+    run(p, c, &worst)
 }

@@ -4,8 +4,10 @@ ghost use Prim.Native.Nat.{_<_, _≤_, max};
 ghost use Rattle.plan.specs.Rules.{mostTypes, mostUnits};
 ghost use Rattle.simulation.specs.Steps.{FreeFirst, RunOf, Runnable, latestOf};
 use crate::Simulation;
+use plan::Constraint;
 use plan::MOST_TASKS;
 use plan::MOST_TYPES;
+use plan::Plan;
 
 // Room for the most units of each of the most types.
 const MOST_PER_TYPE: usize = plan::MOST_UNITS as usize;
@@ -52,17 +54,11 @@ fn free_first(free: &[u32; ALL_UNITS], ty: usize, units: u32) -> usize
 // A position starts no earlier than the position before it, the finishes of its predecessors, and the first
 // instant at which a unit of its type is free; `free` keeps the instant from which each unit is free.
 // The tasks of `past` have finished by `last`: no finish is looked at twice.
-pub fn run<'a>(
-    units: &'a [u32; MOST_TYPES],
-    predecessors: &'a [u64; MOST_TASKS],
-    tasks: usize,
-    order: &'a [usize; MOST_TASKS],
-    chosen: &'a [usize; MOST_TASKS],
-    times: &'a [u32],
-) -> Simulation
-    requires { ⌜ Runnable (now units) (now predecessors) tasks (now order) (now chosen) (now times) ⌝ }
-    ensures { λ r. ⌜ RunOf (now (units .entry)) (now (predecessors .entry)) tasks (now (order .entry)) (now (chosen .entry)) (now (times .entry)) r ⌝ }
+pub fn run(p: Plan, c: Constraint, times: &[u32]) -> Simulation
+    requires { ⌜ Runnable p c (now times) ⌝ }
+    ensures { λ r. ⌜ RunOf p c (now (times .entry)) r ⌝ }
 {
+    let tasks = p.tasks;
     let mut starts = [0; MOST_TASKS];
     let mut finishes = [0; MOST_TASKS];
     let mut free = [0; ALL_UNITS];
@@ -71,10 +67,10 @@ pub fn run<'a>(
     let mut response = 0;
     let mut k = 0;
     while k < tasks {
-        let t = order[k];
-        let ty = chosen[k];
-        let unit = free_first(&free, ty, units[ty]);
-        let needed = plan::predecessors_of(predecessors, t);
+        let t = c.order[k];
+        let ty = c.chosen[k];
+        let unit = free_first(&free, ty, p.units[ty]);
+        let needed = plan::predecessors_of(&p.predecessors, t);
         let waited = latest_finish(&finishes, task_set::difference(needed, past));
         last = later(later(last, waited), free[unit]);
         past = past | needed;

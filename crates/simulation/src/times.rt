@@ -1,7 +1,8 @@
 // Times by task number: those of the chosen types, and 18.
 ghost use mathlib.Core.Path.{_≡_};
 ghost use lib.ListN.{length};
-ghost use Rattle.simulation.specs.Steps.{ChosenTimes, Distinct, LowestOf, outsideAt};
+ghost use Rattle.plan.specs.Steps.{Positions};
+ghost use Rattle.simulation.specs.Steps.{ChosenTimes, LowestOf, outsideAt};
 use plan::MOST_PAIRS;
 use plan::MOST_TASKS;
 
@@ -12,7 +13,7 @@ pub fn chosen_times<'a>(
     chosen: &'a [usize; MOST_TASKS],
     len: usize,
 ) -> [u32; MOST_TASKS]
-    requires { ⌜ Distinct (now order) len ⌝ }
+    requires { ⌜ Positions (now order) (now chosen) len ⌝ }
     ensures { λ r. ⌜ ChosenTimes (now (times .entry)) (now (order .entry)) (now (chosen .entry)) len r ⌝ }
 {
     let mut by_task = [0; MOST_TASKS];
@@ -36,7 +37,7 @@ pub fn first_outside<'a>(
     times: &'a [u32],
     tasks: usize,
 ) -> usize
-    requires { ⌜ Distinct (now order) tasks × (length (now times) ≡ tasks) ⌝ }
+    requires { ⌜ Positions (now order) (now chosen) tasks × (length (now times) ≡ tasks) ⌝ }
     ensures { λ r. ⌜ LowestOf tasks (now (order .entry))
         (outsideAt (now (bcet .entry)) (now (wcet .entry)) (now (order .entry)) (now (chosen .entry)) (now (times .entry))) tasks r ⌝ }
 {

@@ -6,7 +6,7 @@ use Prim.Native.Nat.{ℕ, zero, suc, _+_, _*_, _≤_, _<_, zero-le}
 use native.Mathlib.Nat.{add-le-add, add-zero, add-suc, zero-mul, suc-mul, le-refl, le-of-suc-le-suc, not-suc-le-zero, le-step, lt-suc-self, eq-or-lt-of-le}
 use native.Mathlib.Numerals.{add-one}
 use native.Mathlib.Omega.{arith}
-use borrow.Author.Tests.{eq-eqb, eqb-true, ne-eqb, ltb-true, ltb-false}
+use borrow.Author.Tests.{eq-eqb, eqb-true, ne-eqb, ltb-true, ltb-false, lt-ltb}
 use lib.Dec.{eqb, ltb}
 use Rattle.task_set.specs.Bounded.{all, any, count}
 use Rattle.task_set.proofs.Truth.{clash, by-test, off, same, and-left, and-right, or-left, or-right, or-cases, or-none}
@@ -18,6 +18,12 @@ below-suc P n f e i l = go (eq-or-lt-of-le (le-of-suc-le-suc l))
     go : (i ≡ n) ⊎ (i < n) → P i
     go (inl q) = subst P (sym q) e
     go (inr m) = f i m
+
+-- another number than k is below k exactly if it is below its successor
+pub other-below : (x k : ℕ) → (x ≡ k → ⊥) → ltb x k ≡ ltb x (suc k)
+other-below x k f =
+    same (ltb x k) (ltb x (suc k)) (λ e. lt-ltb x (suc k) (omega (arith, ltb-true x k e)))
+    (λ e. lt-ltb x k (omega (arith, f, ltb-true x (suc k) e)))
 
 -- ---- every
 

@@ -19,9 +19,9 @@ use Rattle.plan.proofs.Accepted.{Accepted, accepted}
 use Rattle.dispatch_theory.specs.Sums.{sum}
 use Rattle.dispatch_theory.proofs.Sums.{sum-mono, sum-le}
 use Rattle.dispatch_theory.proofs.Greedy.{bound}
-use Rattle.runs.specs.Running.{entries, best, worst, orZero, ended, response}
+use Rattle.runs.specs.Running.{horizon, allowed, entries, best, worst, orZero, ended, response}
 use Rattle.runs.proofs.Positions.{position-entry, task-times, by-position}
-use Rattle.runs.proofs.Closed.{durations, startsOf, entryOf, lawful, greedy}
+use Rattle.runs.proofs.Orders.{durations, startsOf, entryOf, lawful, greedy}
 use Rattle.runs.proofs.Response.{ended-start, ended-finish, response-sum}
 use Rattle.simulation.specs.Simulated.{timeIn, outside, timesVerdict, simulationVerdict}
 use Rattle.timetable.specs.Decimal.{decimalUpto, decimal}
@@ -56,7 +56,7 @@ module _ (p : Plan) (c : Constraint) (a : Accepted p c) (d : ℕ → ℕ)
   start-by i l =
       omega (
         arith,
-        bound _ (p .tasks) _ 0 (lawful p c a) (durations c d) (startsOf p c d) (greedy p c a d) i l,
+        bound (lawful a) (greedy a d) i l,
         sum-le i (λ j. durations c d j + 0) longestTime (λ j m. omega (arith, short (entryAt (c .order) j) (a .task j (lt-trans m l)))),
       )
 
@@ -66,9 +66,9 @@ module _ (p : Plan) (c : Constraint) (a : Accepted p c) (d : ℕ → ℕ)
       let m = a .task i l in
       rw (
         line-length t (entryAt (c .chosen) i) (orZero (ended p c d .start t)) (orZero (ended p c d .finish t)),
-        ended-start p c a d positive t m,
-        ended-finish p c a d positive t m,
-        position-entry p c a i l,
+        ended-start a d positive t m,
+        ended-finish a d positive t m,
+        position-entry a i l,
       )
       (omega (
         arith,
@@ -78,12 +78,13 @@ module _ (p : Plan) (c : Constraint) (a : Accepted p c) (d : ℕ → ℕ)
       ))
 
   last-by : length (lastLine (response p c d)) ≤ digits (mostTasks * longestTime) + 3
+  unfolding horizon
   last-by =
       omega (
         arith,
         last-length (response p c d),
         decimal-mono (response p c d) (mostTasks * longestTime)
-            (omega (arith, response-sum p c a d positive, sum-le (p .tasks) d longestTime short, a .few-tasks)),
+            (omega (arith, response-sum a d positive, sum-le (p .tasks) d longestTime short, a .few-tasks)),
       )
 
   lines-by : length (rows (ended p c d) (entries c)) ≤ sum mostTasks digits + sum mostTasks beside
@@ -93,7 +94,7 @@ module _ (p : Plan) (c : Constraint) (a : Accepted p c) (d : ℕ → ℕ)
         arith,
         ap length (rows-joined (ended p c d) (c .len) (entryOf c)) ∙ length-joined (c .len) _ ∙ ap (λ (n : ℕ). sum n lines) (a .whole),
         sum-apart (p .tasks) lines (λ i. digits (entryAt (c .order) i)) beside line-by,
-        by-position p c a digits,
+        by-position a digits,
         sum-mono mostTasks digits (p .tasks) (a .few-tasks),
         sum-mono mostTasks beside (p .tasks) (a .few-tasks),
       )
@@ -119,12 +120,12 @@ longest p c e d h =
 pub longest-worst : (p : Plan) (c : Constraint) → verdict p c .number ≡ 0 → length (worstText p c) ≤ 1306
 unfolding worstText
 longest-worst p c e =
-    longest p c e (worst p c) (λ t l. let h = task-times p c (accepted p c e) t l in (omega arith, omega arith))
+    longest p c e (worst p c) (λ t l. let h = task-times (accepted p c e) t l in (omega arith, omega arith))
 
 -- each time of a list that is not refused is in its range
 in-range : (p : Plan) (c : Constraint) (times : List ℕ) → timesVerdict p c times .number ≡ 0 → (t : ℕ) → t < p .tasks
     → (best p c t ≤ timeIn times t) × (timeIn times t ≤ worst p c t)
-unfolding timesVerdict unlessAt outside
+unfolding timesVerdict unlessAt outside allowed
 in-range p c times e t l =
     let b = not-false _ inside in
     (leb-true _ _ (and-left _ (leb (timeIn times t) (worst p c t)) b), leb-true _ _ (and-right (leb (best p c t) (timeIn times t)) _ b))
@@ -142,6 +143,6 @@ unfolding simulationVerdict
 longest-simulated p c times e =
     let f = first-taken (verdict p c) (timesVerdict p c times) e in
     longest p c f (timeIn times)
-    (λ t l. let h = task-times p c (accepted p c f) t l in
+    (λ t l. let h = task-times (accepted p c f) t l in
     let r = in-range p c times (second-taken (verdict p c) (timesVerdict p c times) e) t l in
     (omega arith, omega arith))
