@@ -1,109 +1,112 @@
--- An order that passes 9 is one of all tasks; in it, a predecessor that does not stand before a task stands after it. Assumes nothing.
-use mathlib.Core.Path.{_≡_, sym, ap, _∙_}
+-- An order that passes 9 is one of all tasks; in it, a predecessor that does not stand before a task stands after it.
+-- Assumes nothing.
+use mathlib.Core.Path.{_≡_, refl, sym, ap, _∙_}
 use mathlib.Core.Bool.{Bool, true, false, _&&_, not}
 use mathlib.Core.List.{List}
 use Prim.Native.Nat.{ℕ, _≤_, _<_}
-use native.Mathlib.Nat.{lt-of-lt-of-le, lt-trans}
+use native.Mathlib.Nat.{lt-trans, lt-of-lt-of-le}
 use native.Mathlib.Omega.{arith}
-use borrow.Author.Tests.{eq-eqb, eqb-true, leb-false, lt-ltb, ltb-true, ltb-false, not-true}
+use borrow.Author.Tests.{eqb-true, eq-eqb, leb-false, ltb-true, ltb-false, lt-ltb, not-true}
 use lib.Dec.{eqb, leb, ltb}
-use Rattle.task_set.specs.Bounded.{any, first}
+use Rattle.task_set.specs.Bounded.{any}
 use Rattle.task_set.specs.Sets.{width, has}
 use Rattle.task_set.proofs.Truth.{clash, by-test, same, off, and-left, and-right, and-both, or-left-off, or-right-off}
 use Rattle.task_set.proofs.Bounded.{any-intro, any-elim, any-off}
-use Rattle.task_set.proofs.Search.{first-none}
 use Rattle.task_set.proofs.Cover.{cover}
-use Rattle.plan.specs.Rules.{predecessorsOf}
-use Rattle.plan.specs.Refusals.{entryAt, misplaced, early}
+use Rattle.plan.specs.declared.Plan.{Plan}
+use Rattle.plan.specs.Rules.{predecessorsOf, planOk}
+use Rattle.plan.specs.Refusals.{entryAt, misplaced, predecessorLater}
 use Rattle.plan.specs.Steps.{placed, unmet}
+use Rattle.plan.proofs.Kept.{few-tasks, not-itself, known-predecessor}
 
--- the first n entries are tasks below n, and none repeats
-pub record Arranged (n : ℕ) (order : List ℕ) : Type 0 where
+module _ (n : ℕ) (order : List ℕ) (ok : (i : ℕ) → i < n → misplaced n order i ≡ false) where
+  -- the first n entries are tasks below n, and none repeats
   pub low : (i : ℕ) → i < n → entryAt order i < n
-  pub new : (i : ℕ) → i < n → placed order i (entryAt order i) ≡ false
+  unfolding misplaced
+  low i m = leb-false n (entryAt order i) (or-left-off (leb n (entryAt order i)) _ (ok i m))
 
-pub arranged : (n : ℕ) (order : List ℕ) → n ≤ first n (misplaced n order) → Arranged n order
-unfolding misplaced placed
-arranged n order l =
-    record {
-      low = λ i m. leb-false n (entryAt order i) (or-left-off (leb n (entryAt order i)) _ (first-none n (misplaced n order) l i m));
-      new = λ i m. or-right-off (leb n (entryAt order i)) _ (first-none n (misplaced n order) l i m);
-    }
+  new : (i : ℕ) → i < n → any i (λ j. eqb (entryAt order j) (entryAt order i)) ≡ false
+  unfolding misplaced
+  new i m = or-right-off (leb n (entryAt order i)) _ (ok i m)
 
-module _ (n : ℕ) (order : List ℕ) (a : Arranged n order) where
   -- a later position has another task
   apart : (i j : ℕ) → i < j → j < n → entryAt order i ≡ entryAt order j → ⊥
-  unfolding placed
-  apart i j l m e =
-      clash (eq-eqb (entryAt order i) (entryAt order j) e) (any-off j (λ k. eqb (entryAt order k) (entryAt order j)) (a .new j m) i l)
+  apart i j l m e = clash (eq-eqb (entryAt order i) (entryAt order j) e) (any-off j _ (new j m) i l)
 
   -- each task stands at one position only
   pub once : (i j : ℕ) → i < n → j < n → entryAt order i ≡ entryAt order j → i ≡ j
   once i j l m e =
       by-test (ltb i j) (λ f. absurd (apart i j (ltb-true i j f) m e))
-      (λ f. by-test (ltb j i) (λ g. absurd (apart j i (ltb-true j i g) l (sym e))) (λ g. omega (arith, ltb-false i j f, ltb-false j i g)))
+      (λ f. by-test (ltb j i) (λ g. absurd (apart j i (ltb-true j i g) l (sym e)))
+      (λ g. omega (arith, ltb-false i j f, ltb-false j i g)))
 
   -- each task stands somewhere
   pub somewhere : (t : ℕ) → t < n → (i : ℕ) × (i < n) × (entryAt order i ≡ t)
-  unfolding placed
-  somewhere t l = let r = cover n (entryAt order) (a .low) (a .new) t l in (r .0, r .1, eqb-true (entryAt order (r .0)) t (r .2))
+  somewhere t l = let r = cover n (entryAt order) low new t l in (r .0, r .1, eqb-true (entryAt order (r .0)) t (r .2))
 
-  module _ (predecessors : List ℕ) (few : n ≤ width)
-      (not-itself : (t : ℕ) → t < n → has (predecessorsOf predecessors t) t ≡ false)
-      (known : (t : ℕ) → t < n → (u : ℕ) → u < width → has (predecessorsOf predecessors t) u ≡ true → u < n) where
-    -- the position of a predecessor that does not stand before position i
-    after : (i u : ℕ) → i < n → u < width → has (predecessorsOf predecessors (entryAt order i)) u ≡ true → placed order i u ≡ false
-        → (j : ℕ) × (j < n) × (i < j) × (entryAt order j ≡ u)
-    unfolding placed
-    after i u l m h f = (j, r .1, later, r .2)
-      where
-        s : ℕ
-        s = predecessorsOf predecessors (entryAt order i)
+-- ---- an order of the tasks of a plan without fault
 
-        r : (j : ℕ) × (j < n) × (entryAt order j ≡ u)
-        r = somewhere u (known (entryAt order i) (a .low i l) u m h)
+module _ (p : Plan) (kept : planOk p ≡ true) (order : List ℕ) (ok : (i : ℕ) → i < p .tasks → misplaced (p .tasks) order i ≡ false)
+    (i : ℕ) (l : i < p .tasks) where
+  abbrev t : ℕ
+  t = entryAt order i
 
-        j : ℕ
-        j = r .0
+  abbrev s : ℕ
+  s = predecessorsOf (p .predecessors) t
 
-        not-before : j < i → ⊥
-        not-before k = clash (eq-eqb (entryAt order j) u (r .2)) (any-off i (λ k. eqb (entryAt order k) u) f j k)
+  -- a predecessor of the task at i stands somewhere else
+  stands : (u : ℕ) → u < width → has s u ≡ true → (j : ℕ) × (j < p .tasks) × (entryAt order j ≡ u) × (j ≡ i → ⊥)
+  stands u m h =
+      let r = somewhere (p .tasks) order ok u (known-predecessor p kept t (low (p .tasks) order ok i l) u m h) in (
+        r .0,
+        r .1,
+        r .2,
+        λ e.
+            clash h (ap (has s) (sym (r .2) ∙ ap (entryAt order) e) ∙ not-itself p kept t (low (p .tasks) order ok i l)),
+      )
 
-        not-here : j ≡ i → ⊥
-        not-here e = clash h (ap (has s) (sym (r .2) ∙ ap (entryAt order) e) ∙ not-itself (entryAt order i) (a .low i l))
+  abbrev follows : ℕ → Bool
+  follows j = ltb i j && has s (entryAt order j)
 
-        later : i < j
-        later = by-test (ltb i j) (λ e. ltb-true i j e)
-            (λ e. by-test (ltb j i) (λ g. absurd (not-before (ltb-true j i g))) (λ g. absurd (not-here (omega (arith, ltb-false i j e, ltb-false j i g)))))
+  -- where none stands later, each stands earlier
+  pub before : predecessorLater (p .predecessors) order (p .tasks) i ≡ false → (u : ℕ) → u < width → has s u ≡ true
+      → (j : ℕ) × (j < i) × (entryAt order j ≡ u)
+  unfolding predecessorLater
+  before none u m h =
+      let r = stands u m h in
+      (r .0, by-test (ltb (r .0) i) (ltb-true (r .0) i) (λ e. absurd (later r e)), r .2)
+    where
+      later : (r : (j : ℕ) × (j < p .tasks) × (entryAt order j ≡ u) × (j ≡ i → ⊥)) → ltb (r .0) i ≡ false → ⊥
+      later r e =
+          let k : i < r .0 = omega (arith, ltb-false (r .0) i e, r .3) in
+          clash (and-both (lt-ltb i (r .0) k) (ap (has s) (r .2) ∙ h)) (any-off (p .tasks) follows none (r .0) (r .1))
 
-    pub early-unmet : (i : ℕ) → i < n → unmet predecessors order i ≡ early predecessors order n i
-    unfolding unmet early placed
-    early-unmet i l = same (any width waits) (any n follows) forth back
-      where
-        s : ℕ
-        s = predecessorsOf predecessors (entryAt order i)
+  -- "later in the order" is "not before"
+  pub later-unmet : unmet (p .predecessors) order i ≡ predecessorLater (p .predecessors) order (p .tasks) i
+  unfolding unmet predecessorLater placed
+  later-unmet = same (any width waits) (any (p .tasks) follows) forth back
+    where
+      waits : ℕ → Bool
+      waits u = has s u && not (placed order i u)
 
-        waits : ℕ → Bool
-        waits u = has s u && not (placed order i u)
+      forth : any width waits ≡ true → any (p .tasks) follows ≡ true
+      forth e =
+          let w = any-elim width waits e in
+          let h = and-left (has s (w .0)) _ (w .2) in
+          let r = stands (w .0) (w .1) h in
+          let f = not-true _ (and-right (has s (w .0)) _ (w .2)) in
+          let k : i < r .0 = by-test (ltb (r .0) i)
+          (λ g. absurd (clash (eq-eqb (entryAt order (r .0)) (w .0) (r .2)) (any-off i (λ k. eqb (entryAt order k) (w .0)) f (r .0) (ltb-true (r .0) i g))))
+          (λ g. omega (arith, ltb-false (r .0) i g, r .3)) in
+          any-intro (p .tasks) follows (r .0) (r .1) (and-both (lt-ltb i (r .0) k) (ap (has s) (r .2) ∙ h))
 
-        follows : ℕ → Bool
-        follows j = ltb i j && has s (entryAt order j)
-
-        forth : any width waits ≡ true → any n follows ≡ true
-        forth e =
-            let w = any-elim width waits e in
-            let r = after i (w .0) l (w .1) (and-left (has s (w .0)) _ (w .2)) (not-true _ (and-right (has s (w .0)) _ (w .2))) in
-            any-intro n follows (r .0) (r .1) (and-both (lt-ltb i (r .0) (r .2)) (ap (has s) (r .3) ∙ and-left (has s (w .0)) _ (w .2)))
-
-        unplaced : (j : ℕ) → j < n → i < j → placed order i (entryAt order j) ≡ false
-        unplaced j m k = off _ (λ e. seen (any-elim i (λ k. eqb (entryAt order k) (entryAt order j)) e))
-          where
-            seen : (h : ℕ) × (h < i) × (eqb (entryAt order h) (entryAt order j) ≡ true) → ⊥
-            seen r = apart (r .0) j (lt-trans (r .1) k) m (eqb-true _ _ (r .2))
-
-        back : any n follows ≡ true → any width waits ≡ true
-        back e =
-            let w = any-elim n follows e in
-            let t = entryAt order (w .0) in
-            any-intro width waits t (lt-of-lt-of-le (a .low (w .0) (w .1)) few)
-            (and-both (and-right (ltb i (w .0)) (has s t) (w .2)) (ap not (unplaced (w .0) (w .1) (ltb-true i (w .0) (and-left (ltb i (w .0)) (has s t) (w .2))))))
+      back : any (p .tasks) follows ≡ true → any width waits ≡ true
+      back e =
+          let w = any-elim (p .tasks) follows e in
+          let u = entryAt order (w .0) in
+          let k = ltb-true i (w .0) (and-left (ltb i (w .0)) (has s u) (w .2)) in
+          any-intro width waits u (lt-of-lt-of-le (low (p .tasks) order ok (w .0) (w .1)) (few-tasks p kept))
+          (and-both (and-right (ltb i (w .0)) (has s u) (w .2)) (ap not (off _ (λ g. unplaced (w .0) (w .1) k (any-elim i _ g)))))
+        where
+          unplaced : (j : ℕ) → j < p .tasks → i < j → (h : ℕ) × (h < i) × (eqb (entryAt order h) (entryAt order j) ≡ true) → ⊥
+          unplaced j m k r = apart (p .tasks) order ok (r .0) j (lt-trans (r .1) k) m (eqb-true _ _ (r .2))

@@ -1,15 +1,17 @@
 -- The rules of the tasks, as the check tests them: the pairs in one row, then the types and predecessors of each task. Assumes nothing.
-use mathlib.Core.Path.{_≡_, sym, _∙_}
+use mathlib.Core.Path.{_≡_, refl, sym, _∙_}
 use mathlib.Core.Bool.{Bool, true, false, cond, _&&_, _||_, not, and-true, and-false, and-comm, and-assoc, or-true, or-false, Bool·not-not}
 use mathlib.Core.List.{List}
-use Prim.Native.Nat.{ℕ, zero, suc, _<_, compare·zero-suc, compare·suc-zero}
+use Prim.Native.Nat.{ℕ, zero, suc, _≤_, _<_, compare·zero-suc, compare·suc-zero}
 use native.Mathlib.Nat.{zero-lt-suc}
-use borrow.Author.Tests.{lt-ltb}
+use native.Mathlib.Omega.{arith}
+use borrow.Author.Tests.{lt-ltb, ltb-true}
 use lib.Dec.{ltb, leb·suc-zero}
 use lib.ListN.{getD}
 use Rattle.task_set.specs.Bounded.{all, any, implies}
+use Rattle.task_set.proofs.Truth.{by-test, and-left, and-right}
 use Rattle.task_set.proofs.Bounded.{all-cong, all-both, all-rows, not-all}
-use Rattle.plan.specs.Rules.{mostTypes, mostTasks, mostPairs, pairIndex, timeOf, usable, pairOk, pairsOk, someTypeOk, taskOk}
+use Rattle.plan.specs.Rules.{mostTypes, mostTasks, mostPairs, pairIndex, pairPlace, timeOf, usable, pairOk, pairsOk, someTypeOk, taskOk}
 use Rattle.plan.specs.Steps.{pairFits, pairFitsAt, noTypeFrom, typesOk, restOk}
 
 -- a pair keeps its rule if it fits and is not used where the task or the type is absent
@@ -20,6 +22,23 @@ pair-parts here zero (suc worst) = simp (compare·zero-suc, compare·suc-zero, a
 pair-parts here (suc best) zero = simp (compare·suc-zero, and-false)
 pair-parts here (suc best) (suc worst) =
     simp (compare·suc-zero, lt-ltb 0 (suc best) (zero-lt-suc best), lt-ltb 0 (suc worst) (zero-lt-suc worst), and-true, or-false) (and-comm here _)
+
+-- a time by where its pair lies
+module _ (times : List ℕ) (t k : ℕ) {i : ℕ} (e : i ≡ pairPlace t k) where
+  pub time-past : mostPairs ≤ i → 0 ≡ timeOf times t k
+  unfolding timeOf pairPlace
+  time-past l = by-test (ltb t mostTasks && ltb k mostTypes) (λ f. absurd (kept f)) (λ f. rw f refl)
+    where
+      kept : ltb t mostTasks && ltb k mostTypes ≡ true → ⊥
+      kept f =
+          let q : i ≡ pairIndex t k = rw f at e in
+          omega (arith, ltb-true t mostTasks (and-left (ltb t mostTasks) _ f), ltb-true k mostTypes (and-right (ltb t mostTasks) _ f))
+
+  pub time-there : i < mostPairs → getD times i 0 ≡ timeOf times t k
+  unfolding timeOf pairPlace
+  time-there l =
+      by-test (ltb t mostTasks && ltb k mostTypes) (λ f. rw (e, f) refl)
+      (λ f. let q : i ≡ mostPairs = rw f at e in absurd (omega arith))
 
 time-at : (times : List ℕ) (t k : ℕ) → t < mostTasks → k < mostTypes → timeOf times t k ≡ getD times (pairIndex t k) 0
 unfolding timeOf

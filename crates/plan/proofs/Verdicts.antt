@@ -1,78 +1,89 @@
--- The verdict, branch by branch, as the check comes to it. Assumes nothing.
-use mathlib.Core.Path.{_≡_, _∙_}
-use mathlib.Core.Bool.{Bool, true, false}
-use Prim.Native.Nat.{ℕ, _≤_, _<_}
-use native.Mathlib.Nat.{le-trans, le-of-eq}
-use borrow.Author.Tests.{eq-eqb, ne-eqb, lt-ltb, le-ltb}
+-- The verdict, as the check comes to it, and what it leaves where nothing is refused. Assumes nothing.
+use mathlib.Core.Path.{_≡_, refl, sym, ap, _∙_}
+use mathlib.Core.Bool.{Bool, true, false, cond, not}
+use Prim.Native.Nat.{ℕ, _<_}
+use native.Mathlib.Omega.{arith}
+use borrow.Author.Tests.{eq-eqb, eqb-true, ltb-false, not-false}
+use lib.Dec.{eqb, ltb}
 use Rattle.task_set.specs.Bounded.{first}
-use Rattle.task_set.proofs.Search.{first-cong}
+use Rattle.task_set.proofs.Truth.{by-test}
+use Rattle.task_set.proofs.Search.{first-cong, first-none}
 use Rattle.plan.specs.declared.Plan.{Plan}
 use Rattle.plan.specs.declared.Constraint.{Constraint}
 use Rattle.plan.specs.declared.Verdict.{Verdict}
 use Rattle.plan.specs.Rules.{planOk}
-use Rattle.plan.specs.Refusals.{misplaced, unusable, early, refused, accepted, unlessAt, verdict}
+use Rattle.plan.specs.Refusals.{misplaced, unusable, predecessorLater, refused, accepted, unlessAt, verdict}
 use Rattle.plan.specs.Steps.{unmet}
-use Rattle.plan.proofs.Kept.{few-tasks, not-itself, known-predecessor}
-use Rattle.plan.proofs.Arranged.{Arranged, arranged, early-unmet}
-
-unless-found : (number n : ℕ) (fault : ℕ → Bool) (rest : Verdict) {a : ℕ} → a ≡ first n fault → a < n → unlessAt number n fault rest ≡ refused number a
-unfolding unlessAt
-unless-found number n fault rest e l = rw (← e, lt-ltb _ _ l)
-
-unless-none : (number n : ℕ) (fault : ℕ → Bool) (rest : Verdict) {a : ℕ} → a ≡ first n fault → n ≤ a → unlessAt number n fault rest ≡ rest
-unfolding unlessAt
-unless-none number n fault rest e l = rw (← e, le-ltb _ _ l)
+use Rattle.plan.proofs.Refusing.{unless-by, unless-passed, cond-passed}
+use Rattle.plan.proofs.Arranged.{later-unmet}
 
 module _ (p : Plan) (c : Constraint) where
-  -- what is tried after 10, and after 9
-  abbrev past-10 : Verdict
-  past-10 = unlessAt 11 (c .len) (early (p .predecessors) (c .order) (c .len)) accepted
+  abbrev at-9 : ℕ → Bool
+  at-9 = misplaced (p .tasks) (c .order)
 
-  abbrev past-9 : Verdict
-  past-9 = unlessAt 10 (c .len) (unusable (p .types) (p .wcet) (c .order) (c .chosen)) past-10
+  abbrev at-10 : ℕ → Bool
+  at-10 = unusable (p .types) (p .wcet) (c .order) (c .chosen)
 
-  pub says-8 : planOk p ≡ false → verdict p c ≡ refused 8 0
+  abbrev at-11 : ℕ → ℕ → Bool
+  at-11 = predecessorLater (p .predecessors) (c .order)
+
+  -- 9 to 11, from the first position that each search finds; 11's looks for a predecessor that does not stand before
+  pub order-by : planOk p ≡ true → c .len ≡ p .tasks → {x y z : ℕ} → x ≡ first (p .tasks) at-9 → y ≡ first (p .tasks) at-10
+      → z ≡ first (p .tasks) (unmet (p .predecessors) (c .order))
+      → cond (ltb x (p .tasks)) (refused 9 x) (cond (ltb y (p .tasks)) (refused 10 y) (cond (ltb z (p .tasks)) (refused 11 z) accepted))
+      ≡ verdict p c
   unfolding verdict
-  says-8 e = rw e
+  order-by kept whole {x} {y} {z} ex ey ez = by-test (ltb x n) (λ q. rw q (rw q at nine)) (λ q. ap above (tens (searched q)) ∙ nine) ∙ rest
+    where
+      n : ℕ
+      n = p .tasks
 
-  module _ (kept : planOk p ≡ true) where
-    pub says-9-length : (c .len ≡ p .tasks → ⊥) → verdict p c ≡ refused 9 (c .len)
-    unfolding verdict
-    says-9-length f = rw (kept, ne-eqb _ _ f)
+      past-10 : Verdict
+      past-10 = unlessAt 11 n (at-11 n) accepted
 
-    module _ (whole : c .len ≡ p .tasks) where
-      after-length : verdict p c ≡ unlessAt 9 (c .len) (misplaced (p .tasks) (c .order)) past-9
-      unfolding verdict
-      after-length = rw (kept, eq-eqb _ _ whole)
+      past-9 : Verdict
+      past-9 = unlessAt 10 n at-10 past-10
 
-      pub says-9 : {a : ℕ} → a ≡ first (c .len) (misplaced (p .tasks) (c .order)) → a < c .len → verdict p c ≡ refused 9 a
-      says-9 e l = after-length ∙ unless-found _ _ _ _ e l
+      above : Verdict → Verdict
+      above v = cond (ltb x n) (refused 9 x) v
 
-      module _ {a : ℕ} (e9 : a ≡ first (c .len) (misplaced (p .tasks) (c .order))) (l9 : c .len ≤ a) where
-        pub in-order : Arranged (p .tasks) (c .order)
-        in-order =
-            let l : c .len ≤ first (c .len) (misplaced (p .tasks) (c .order)) = le-trans l9 (le-of-eq e9) in
-            arranged (p .tasks) (c .order) (rw whole at l)
+      nine : above past-9 ≡ unlessAt 9 n at-9 past-9
+      nine = unless-by 9 n at-9 past-9 ex
 
-        after-9 : verdict p c ≡ past-9
-        after-9 = after-length ∙ unless-none _ _ _ _ e9 l9
+      rest : unlessAt 9 n at-9 past-9 ≡ verdict p c
+      rest = rw (kept, whole, eq-eqb n n refl) refl
 
-        pub says-10 : {b : ℕ} → b ≡ first (c .len) (unusable (p .types) (p .wcet) (c .order) (c .chosen)) → b < c .len → verdict p c ≡ refused 10 b
-        says-10 e l = after-9 ∙ unless-found _ _ _ _ e l
+      searched : ltb x n ≡ false → (i : ℕ) → i < n → at-9 i ≡ false
+      searched q = first-none n at-9 (omega (arith, ex, ltb-false x n q))
 
-        module _ {b : ℕ} (e10 : b ≡ first (c .len) (unusable (p .types) (p .wcet) (c .order) (c .chosen))) (l10 : c .len ≤ b) where
-          after-10 : verdict p c ≡ past-10
-          after-10 = after-9 ∙ unless-none _ _ _ _ e10 l10
+      tens : ((i : ℕ) → i < n → at-9 i ≡ false) → cond (ltb y n) (refused 10 y) (cond (ltb z n) (refused 11 z) accepted) ≡ past-9
+      tens ok =
+          ap (λ (v : Verdict). cond (ltb y n) (refused 10 y) v)
+          (unless-by 11 n (at-11 n) accepted (ez ∙ first-cong n _ (at-11 n) (λ i l. later-unmet p kept (c .order) ok i l)))
+          ∙ unless-by 10 n at-10 past-10 ey
 
-          -- the position that the check finds is the one that 11 speaks of
-          found : {d : ℕ} → d ≡ first (c .len) (unmet (p .predecessors) (c .order)) → d ≡ first (c .len) (early (p .predecessors) (c .order) (c .len))
-          found e =
-              e ∙ rw whole
-              (first-cong (p .tasks) (unmet (p .predecessors) (c .order)) (early (p .predecessors) (c .order) (p .tasks))
-              (early-unmet (p .tasks) (c .order) in-order (p .predecessors) (few-tasks p kept) (not-itself p kept) (known-predecessor p kept)))
+  -- ---- nothing is refused
 
-          pub says-11 : {d : ℕ} → d ≡ first (c .len) (unmet (p .predecessors) (c .order)) → d < c .len → verdict p c ≡ refused 11 d
-          says-11 e l = after-10 ∙ unless-found _ _ _ _ (found e) l
+  pub record Passed : Type 0 where
+    pub kept : planOk p ≡ true
+    pub whole : c .len ≡ p .tasks
+    pub placed : (i : ℕ) → i < p .tasks → at-9 i ≡ false
+    pub usable : (i : ℕ) → i < p .tasks → at-10 i ≡ false
+    pub ordered : (i : ℕ) → i < p .tasks → at-11 (p .tasks) i ≡ false
 
-          pub accepts : {d : ℕ} → d ≡ first (c .len) (unmet (p .predecessors) (c .order)) → c .len ≤ d → verdict p c ≡ accepted
-          accepts e l = after-10 ∙ unless-none _ _ _ _ (found e) l
+  pub passed : verdict p c .number ≡ 0 → Passed
+  unfolding verdict
+  passed e =
+      let r8 = cond-passed 8 0 (not (planOk p)) _ (omega arith) e in
+      let r = cond-passed 9 (c .len) (not (eqb (c .len) (p .tasks))) _ (omega arith) (r8 .1) in
+      let whole : c .len ≡ p .tasks = eqb-true (c .len) (p .tasks) (not-false _ (r .0)) in
+      let r9 = unless-passed 9 (c .len) at-9 _ (omega arith) (r .1) in
+      let r10 = unless-passed 10 (c .len) at-10 _ (omega arith) (r9 .1) in
+      let r11 = unless-passed 11 (c .len) (at-11 (c .len)) _ (omega arith) (r10 .1) in
+      record {
+        kept = not-false _ (r8 .0);
+        whole = whole;
+        placed = λ i l. r9 .0 i (omega arith);
+        usable = λ i l. r10 .0 i (omega arith);
+        ordered = λ i l. rw whole at (r11 .0 i (omega arith));
+      }

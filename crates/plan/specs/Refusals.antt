@@ -25,8 +25,8 @@ unusable types wcet order chosen i =
     leb types (entryAt chosen i) || not (usable wcet (entryAt order i) (entryAt chosen i))
 
 -- 11: the task "has a predecessor later in the order", of which the first n entries count
-unfoldable pub early : List ℕ → List ℕ → ℕ → ℕ → Bool
-early predecessors order n i =
+unfoldable pub predecessorLater : List ℕ → List ℕ → ℕ → ℕ → Bool
+predecessorLater predecessors order n i =
     any n (λ j. ltb i j && has (predecessorsOf predecessors (entryAt order i)) (entryAt order j))
 
 -- "A refusal is a number and a place"; both are 0 where nothing is refused
@@ -36,7 +36,7 @@ refused number place = record { number = number; place = place }
 abbrev pub accepted : Verdict
 accepted = refused 0 0
 
--- a plan and a constraint that are handed over in parts
+-- a plan and a constraint with these parts
 abbrev pub planOf : ℕ → List ℕ → ℕ → List ℕ → List ℕ → List ℕ → Plan
 planOf types units tasks bcet wcet predecessors =
     record { types = types; units = units; tasks = tasks; bcet = bcet; wcet = wcet; predecessors = predecessors }
@@ -66,5 +66,5 @@ verdict p c =
     (cond (not (eqb (c .len) (p .tasks))) (refused 9 (c .len))
     (unlessAt 9 (c .len) (misplaced (p .tasks) (c .order))
     (unlessAt 10 (c .len) (unusable (p .types) (p .wcet) (c .order) (c .chosen))
-    (unlessAt 11 (c .len) (early (p .predecessors) (c .order) (c .len))
+    (unlessAt 11 (c .len) (predecessorLater (p .predecessors) (c .order) (c .len))
     accepted))))

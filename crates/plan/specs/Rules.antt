@@ -38,6 +38,10 @@ pairIndex t k = t * mostTypes + k
 unfoldable pub timeOf : List ℕ → ℕ → ℕ → ℕ
 timeOf times t k = cond (ltb t mostTasks && ltb k mostTypes) (getD times (pairIndex t k) 0) 0
 
+-- where the pair of task t and type k lies, and the number of pairs where there is none
+unfoldable pub pairPlace : ℕ → ℕ → ℕ
+pairPlace t k = cond (ltb t mostTasks && ltb k mostTypes) (pairIndex t k) mostPairs
+
 -- "its predecessors as a set"; a number past the last task has none
 unfoldable pub predecessorsOf : List ℕ → ℕ → ℕ
 predecessorsOf predecessors t = cond (ltb t mostTasks) (getD predecessors t 0) 0

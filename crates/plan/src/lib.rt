@@ -1,12 +1,13 @@
 // Plans and constraints, and the check that takes or refuses them (document 01, "The plan").
 ghost use mathlib.Core.Path.{_≡_};
-ghost use Rattle.plan.specs.Refusals.{noConstraint, noPlan, verdict};
-ghost use Rattle.plan.specs.Rules.{predecessorsOf, timeOf, usable};
+ghost use Rattle.plan.specs.Refusals.{noConstraint, noPlan};
+ghost use Rattle.plan.specs.Rules.{pairPlace, predecessorsOf, timeOf, usable};
 
 mod order;
 mod rules;
 
-pub use order::check_parts;
+pub use order::check;
+pub use rules::plan_ok;
 
 pub const MOST_TYPES: usize = 8;
 
@@ -18,7 +19,7 @@ pub const MOST_PAIRS: usize = MOST_TASKS * MOST_TYPES;
 
 pub const LONGEST_TIME: u32 = 65535;
 
-// Times are kept task by task: time_of alone knows where one lies.
+// Times are kept task by task: pair_index alone knows where one lies.
 pub struct Plan {
     pub types: usize,
     pub units: [u32; MOST_TYPES],
@@ -64,17 +65,28 @@ pub fn no_constraint() -> Constraint
     }
 }
 
+// Where the times of task t on type k lie; MOST_PAIRS past the last task or type.
+pub fn pair_index(t: usize, k: usize) -> usize
+    ensures { λ r. ⌜ r ≡ pairPlace t k ⌝ }
+{
+    if MOST_TASKS <= t {
+        return MOST_PAIRS;
+    }
+    if MOST_TYPES <= k {
+        return MOST_PAIRS;
+    }
+    t * MOST_TYPES + k
+}
+
 // The time of task t on type k, from the best or the worst times; 0 past the last task or type.
 pub fn time_of(times: &[u32; MOST_PAIRS], t: usize, k: usize) -> u32
     ensures { λ r. ⌜ r ≡ timeOf (now (times .entry)) t k ⌝ }
 {
-    if MOST_TASKS <= t {
+    let i = pair_index(t, k);
+    if MOST_PAIRS <= i {
         return 0;
     }
-    if MOST_TYPES <= k {
-        return 0;
-    }
-    times[t * MOST_TYPES + k]
+    times[i]
 }
 
 pub fn is_usable(wcet: &[u32; MOST_PAIRS], t: usize, k: usize) -> bool
@@ -91,24 +103,4 @@ pub fn predecessors_of(predecessors: &[u64; MOST_TASKS], t: usize) -> u64
         return 0;
     }
     predecessors[t]
-}
-
-// What the check finds: 8 to 11 with their places, or that it takes both.
-pub fn check(p: Plan, c: Constraint) -> Verdict
-    ensures { λ r. ⌜ r ≡ verdict p c ⌝ }
-{
-    let types = p.types;
-    let tasks = p.tasks;
-    let len = c.len;
-    check_parts(
-        types,
-        &p.units,
-        tasks,
-        &p.bcet,
-        &p.wcet,
-        &p.predecessors,
-        len,
-        &c.order,
-        &c.chosen,
-    )
 }

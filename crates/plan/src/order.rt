@@ -1,13 +1,16 @@
 // The check: the plan's rules, then three passes over the order of the constraint.
 ghost use mathlib.Core.Path.{_≡_};
+ghost use mathlib.Core.Bool.{cond, true};
+ghost use lib.Dec.{ltb};
 ghost use Prim.Native.Nat.{_≤_};
 ghost use Rattle.task_set.specs.Bounded.{first};
-ghost use Rattle.plan.specs.Rules.{mostTasks};
-ghost use Rattle.plan.specs.Refusals.{constraintOf, misplaced, planOf, unusable, verdict};
+ghost use Rattle.plan.specs.Rules.{mostTasks, planOk};
+ghost use Rattle.plan.specs.Refusals.{misplaced, refused as refusedAt, unusable, verdict};
 ghost use Rattle.plan.specs.Steps.{unmet};
+use crate::Constraint;
 use crate::MOST_PAIRS;
 use crate::MOST_TASKS;
-use crate::MOST_TYPES;
+use crate::Plan;
 use crate::Verdict;
 use crate::is_usable;
 use crate::predecessors_of;
@@ -77,44 +80,46 @@ fn first_unmet<'a>(
 }
 
 fn refused(number: u32, place: usize) -> Verdict
-    ensures { λ r. ⌜ r ≡ record { number = number; place = place } ⌝ }
+    ensures { λ r. ⌜ r ≡ refusedAt number place ⌝ }
 {
     Verdict { number, place }
 }
 
-// The check of a plan and a constraint that are handed over in parts: nothing is copied.
-pub fn check_parts<'a>(
-    types: usize,
-    units: &'a [u32; MOST_TYPES],
-    tasks: usize,
-    bcet: &'a [u32; MOST_PAIRS],
-    wcet: &'a [u32; MOST_PAIRS],
-    predecessors: &'a [u64; MOST_TASKS],
-    len: usize,
-    order: &'a [usize; MOST_TASKS],
-    chosen: &'a [usize; MOST_TASKS],
-) -> Verdict
-    ensures { λ r. ⌜ r ≡ verdict
-        (planOf types (now (units .entry)) tasks (now (bcet .entry)) (now (wcet .entry)) (now (predecessors .entry)))
-        (constraintOf len (now (order .entry)) (now (chosen .entry))) ⌝ }
+// Refused at a place below n, otherwise what follows.
+fn unless_at(number: u32, place: usize, n: usize, rest: Verdict) -> Verdict
+    ensures { λ r. ⌜ r ≡ cond (ltb place n) (refusedAt number place) rest ⌝ }
 {
-    if !plan_ok(types, units, tasks, bcet, wcet, predecessors) {
+    if place < n {
+        return refused(number, place);
+    }
+    rest
+}
+
+// 9 to 11, in the order in which they are tried, of a plan without fault and an order of so many entries as tasks.
+fn order_verdict(p: Plan, c: Constraint) -> Verdict
+    requires { ⌜ (planOk p ≡ true) × (c .len ≡ p .tasks) ⌝ }
+    ensures { λ r. ⌜ r ≡ verdict p c ⌝ }
+{
+    let types = p.types;
+    let tasks = p.tasks;
+    let misplaced = first_misplaced(tasks, &c.order, tasks);
+    let unusable = first_unusable(types, &p.wcet, &c.order, &c.chosen, tasks);
+    let unmet = first_unmet(&p.predecessors, &c.order, tasks);
+    let eleven = unless_at(11, unmet, tasks, refused(0, 0));
+    let ten = unless_at(10, unusable, tasks, eleven);
+    unless_at(9, misplaced, tasks, ten)
+}
+
+// What the check finds: 8 to 11 with their places, or that it takes both.
+pub fn check(p: Plan, c: Constraint) -> Verdict
+    ensures { λ r. ⌜ r ≡ verdict p c ⌝ }
+{
+    if !plan_ok(p) {
         return refused(8, 0);
     }
-    if len != tasks {
+    let len = c.len;
+    if len != p.tasks {
         return refused(9, len);
     }
-    let misplaced = first_misplaced(tasks, order, len);
-    if misplaced < len {
-        return refused(9, misplaced);
-    }
-    let unusable = first_unusable(types, wcet, order, chosen, len);
-    if unusable < len {
-        return refused(10, unusable);
-    }
-    let unmet = first_unmet(predecessors, order, len);
-    if unmet < len {
-        return refused(11, unmet);
-    }
-    refused(0, 0)
+    order_verdict(p, c)
 }

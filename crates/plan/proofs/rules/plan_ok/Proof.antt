@@ -9,7 +9,7 @@ use Rattle.plan.proofs.Pairs.{tasks-parts}
 use Rattle.plan.proofs.rules.plan_ok.Statement.{statement}
 use Rattle.plan.proofs.rules.plan_ok.Tie as tie
 
-counted : (c : tie.Else1) → countsOk (c .before .before .args .types) (c .before .before .args .tasks) ≡ true
+counted : (c : tie.Else1) → countsOk (c .before .before .args .t1 .types) (c .before .before .args .t1 .tasks) ≡ true
 counted c = sym (c .before .counts-ok .ensures) ∙ not-false _ (c .if1 .left)
 
 returns : tie.Need-returns
@@ -19,11 +19,12 @@ returns c = rw (sym (c .before .counts-ok .ensures) ∙ not-true _ (c .if1 .take
 returns-2 : tie.Need-returns-2
 unfolding planOk
 returns-2 c =
-    rw (counted (c .before .before .before))
-    (ap₂ _&&_ (c .before .before .all-units-ok .ensures)
-    (ap₂ _&&_ (c .before .all-pairs-fit .ensures) (c .all-tasks-ok .ensures) ∙ sym (tasks-parts _ _ _ _ _)))
+    let q = c .before .before .before .before in
+    let u = q .before .before .before .before in
+    rw (counted (u .before .before .before))
+    (ap₂ _&&_ (u .all-units-ok .ensures) (ap₂ _&&_ (q .all-pairs-fit .ensures) (c .all-tasks-ok .ensures) ∙ sym (tasks-parts _ _ _ _ _)))
 
 pub plan-ok-spec : {M : Type 1} → statement M
 plan-ok-spec =
     tie.close (tie.spec (λ c κs. search needs) returns (λ c κs. search needs) (λ c κs. search needs)
-    (λ c κs. counted-types _ _ (counted (c .before .before))) returns-2)
+    (λ c κs. counted-types _ _ (counted (c .before .before .before .before .before .before .before .before .before .before))) returns-2)
