@@ -1,4 +1,5 @@
 //! The check, over any plan and constraint: refusals 8 to 11.
+use crate::limits::*;
 use crate::plan::*;
 
 pub fn check(plan: &Plan, constraint: &Constraint) -> Result<(), Refusal> {
@@ -33,8 +34,7 @@ fn usable(plan: &Plan, task: usize, kind: usize) -> bool {
 
 /// The rules of "The plan".
 fn keeps_the_rules(plan: &Plan) -> bool {
-    (1..=8).contains(&plan.types)
-        && (1..=64).contains(&plan.tasks)
+    plan.counts_are_right()
         && units_are_right(plan)
         && pairs_are_right(plan)
         && predecessors_are_right(plan)
@@ -43,7 +43,7 @@ fn keeps_the_rules(plan: &Plan) -> bool {
 fn units_are_right(plan: &Plan) -> bool {
     (0..TYPES).all(|y| {
         let units = plan.units[y];
-        if (y as u64) < plan.types { (1..=8).contains(&units) } else { units == 0 }
+        if (y as u64) < plan.types { (1..=UNITS as u32).contains(&units) } else { units == 0 }
     })
 }
 
@@ -53,7 +53,8 @@ fn pairs_are_right(plan: &Plan) -> bool {
         let right = (0..TYPES).all(|y| {
             let (best, worst) = (plan.best[pair(t, y)], plan.worst[pair(t, y)]);
             let present = present_task && (y as u64) < plan.types;
-            (best, worst) == (0, 0) || (present && 1 <= best && best <= worst && worst <= 65_535)
+            let in_range = 1 <= best && best <= worst && worst <= LONGEST_TIME;
+            (best, worst) == (0, 0) || (present && in_range)
         });
         right && (!present_task || (0..TYPES).any(|y| usable(plan, t, y)))
     })

@@ -2,6 +2,7 @@
 use crate::driver;
 use crate::generate;
 use crate::random::Random;
+use crate::reached::Reached;
 use crate::texts;
 use crate::timetable::program;
 use std::io::{Read, Write};
@@ -50,15 +51,13 @@ fn first_difference(ours: &[u8], theirs: &[u8]) -> String {
 /// Compares sessions; gives what to print, and whether all is well.
 pub fn sessions(dir: &str, command: &str, seed: u64, count: u64) -> std::io::Result<bool> {
     std::fs::create_dir_all(dir)?;
-    let mut reached = [0u64; 20];
+    let mut reached = Reached::default();
     let mut commands = 0;
     for number in 0..count {
         let (input, given) = generate::session(seed, number);
         commands += given;
         let ours = driver::session(&input);
-        for (sum, n) in reached.iter_mut().zip(ours.reached) {
-            *sum += n;
-        }
+        reached.add(&ours.reached);
         let theirs = output_of(command, &input)?;
         if ours.out != theirs {
             let file = format!("{dir}/{number:03}");
@@ -71,20 +70,12 @@ pub fn sessions(dir: &str, command: &str, seed: u64, count: u64) -> std::io::Res
         }
     }
     println!("{count} sessions, {commands} commands, no difference");
-    Ok(print_reached(&reached))
-}
-
-/// Says whether every refusal was reached.
-fn print_reached(reached: &[u64; 20]) -> bool {
-    println!("accepted: {}", reached[0]);
-    for (number, times) in reached.iter().enumerate().skip(1) {
-        println!("refusal {number}: {times}");
+    reached.print();
+    let missing = reached.missing();
+    if !missing.is_empty() {
+        println!("never reached: {}", missing.join(", "));
     }
-    let never: Vec<usize> = (1..20).filter(|&n| reached[n] == 0).collect();
-    if !never.is_empty() {
-        println!("never reached: {never:?}");
-    }
-    never.is_empty()
+    Ok(missing.is_empty())
 }
 
 /// Compares the program of document 01 on random texts.

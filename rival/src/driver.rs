@@ -1,19 +1,29 @@
 //! The driver: a text, then commands, one answer for each.
 use crate::check::check;
+use crate::limits::*;
 use crate::plan::*;
+use crate::reached::{Reached, TEXT, TICKS_OF_Z};
 use crate::reader::read;
 use crate::run::Times;
 use crate::simulate::{bound, simulate};
-use crate::state::{start, State};
-use crate::timetable::of_worst_times;
+use crate::state::{replay, start, State};
+use crate::timetable::{of_worst_times, timetable};
+
+/// A line of this many bytes is answered `bad`, whatever it says.
+pub const TOO_LONG: usize = 1_024;
+/// Times of `M`.
+pub const MOST_TIMES: usize = 80;
+/// Times of `Y`, reports of `Z`.
+pub const LONGEST_LIST: usize = 79;
+/// Bytes that may be lent.
+pub const MOST_ROOM: u64 = 2_000;
 
 pub struct Driver {
     pub plan: Plan,
     pub constraint: Constraint,
     pub state: State,
     pub out: Vec<u8>,
-    /// How often each refusal was answered; entry 0 counts what was accepted.
-    pub reached: [u64; 20],
+    pub reached: Reached,
 }
 
 /// A number that `P` or `R` may put.
@@ -83,8 +93,13 @@ fn field(bytes: &[u8]) -> Option<u64> {
     std::str::from_utf8(bytes).ok()?.parse().ok()
 }
 
-fn short(field: &u64) -> Option<u32> {
-    u32::try_from(*field).ok()
+fn short(fields: &[u64]) -> Option<Vec<u32>> {
+    fields.iter().map(|&field| u32::try_from(field).ok()).collect()
+}
+
+/// Number and place; 0 and 0 for what is accepted.
+fn number_and_place(refusal: Option<&Refusal>) -> [u64; 2] {
+    refusal.map_or([0, 0], |refusal| [refusal.number, refusal.place])
 }
 
 impl Driver {
@@ -95,10 +110,10 @@ impl Driver {
             constraint: Constraint::zero(),
             state: State::zero(),
             out: Vec::new(),
-            reached: [0; 20],
+            reached: Reached::default(),
         };
         let answer = read(text);
-        driver.say("read", answer.as_ref().err(), &[]);
+        driver.say(TEXT, "read", answer.as_ref().err(), &[]);
         if let Ok((plan, constraint)) = answer {
             driver.plan = plan;
             driver.constraint = constraint;
@@ -117,7 +132,7 @@ impl Driver {
 
     /// Carries out one line and answers it.
     pub fn command(&mut self, line: &[u8]) {
-        if self.obey(line).is_none() {
+        if line.len() >= TOO_LONG || self.obey(line).is_none() {
             self.line("bad", &[]);
         }
     }
@@ -131,12 +146,13 @@ impl Driver {
             (b'B', []) => self.bound(),
             (b'S', []) => self.start(),
             (b'Q', []) => self.query(),
-            (b'M', times) if times.len() <= 80 => {
-                let times: Vec<u32> = times.iter().map(short).collect::<Option<_>>()?;
-                self.simulate(&times);
-            }
+            (b'M', times) if times.len() <= MOST_TIMES => self.simulate(&short(times)?),
             (b'T', &[report]) => self.tick(report),
-            (b'W', &[length]) if length <= 2_000 => self.timetable(length as usize),
+            (b'W', &[room]) if room <= MOST_ROOM => self.worst_timetable(room as usize),
+            (b'Y', [room, times @ ..]) if *room <= MOST_ROOM && times.len() <= LONGEST_LIST => {
+                self.timetable(*room as usize, &short(times)?);
+            }
+            (b'Z', reports) if reports.len() <= LONGEST_LIST => self.replay(reports),
             (b'P' | b'R', &[part, index, value]) => {
                 let fits = self.slot(letter, part, index)?.put(value);
                 fits.then(|| self.line("put", &[]))?;
@@ -155,23 +171,27 @@ impl Driver {
     }
 
     /// A line with number and place, then the other fields.
-    fn say(&mut self, name: &str, refusal: Option<&Refusal>, rest: &[u64]) {
-        let (number, place) = refusal.map_or((0, 0), |r| (r.number, r.place));
-        self.reached[number as usize] += 1;
-        let mut fields = vec![number, place];
-        fields.extend_from_slice(rest);
-        self.line(name, &fields);
+    fn say(
+        &mut self,
+        command: &'static str,
+        name: &str,
+        refusal: Option<&Refusal>,
+        rest: &[u64],
+    ) {
+        let [number, place] = number_and_place(refusal);
+        self.reached.note(command, number);
+        self.line(name, &[&[number, place], rest].concat());
     }
 
     fn check(&mut self) {
         let answer = check(&self.plan, &self.constraint);
-        self.say("check", answer.err().as_ref(), &[]);
+        self.say("K", "check", answer.err().as_ref(), &[]);
     }
 
     fn bound(&mut self) {
         let answer = bound(&self.plan, &self.constraint);
         let response = answer.as_ref().map_or(0, |t| t.response as u64);
-        self.say("bound", answer.err().as_ref(), &[response]);
+        self.say("B", "bound", answer.err().as_ref(), &[response]);
     }
 
     fn simulate(&mut self, times: &[u32]) {
@@ -180,20 +200,20 @@ impl Driver {
         let run = answer.as_ref().unwrap_or(&zero);
         let mut rest = vec![run.response as u64];
         rest.extend(starts_and_finishes(&run.starts, &run.finishes));
-        self.say("simulate", answer.as_ref().err(), &rest);
+        self.say("M", "simulate", answer.as_ref().err(), &rest);
     }
 
     fn start(&mut self) {
         let (state, answer) = start(&self.plan, &self.constraint);
         self.state = state;
-        self.say("start", answer.err().as_ref(), &[answer.unwrap_or(0)]);
+        self.say("S", "start", answer.err().as_ref(), &[answer.unwrap_or(0)]);
     }
 
     fn tick(&mut self, report: u64) {
         let state = std::mem::replace(&mut self.state, State::zero());
         let (state, answer) = state.tick(report);
         self.state = state;
-        self.say("tick", answer.err().as_ref(), &[answer.unwrap_or(0)]);
+        self.say("T", "tick", answer.err().as_ref(), &[answer.unwrap_or(0)]);
     }
 
     fn query(&mut self) {
@@ -203,12 +223,42 @@ impl Driver {
         self.line("state", &fields);
     }
 
-    fn timetable(&mut self, length: usize) {
-        let mut buffer = vec![b'#'; length];
+    fn worst_timetable(&mut self, room: usize) {
+        let mut buffer = vec![b'#'; room];
         let answer = of_worst_times(&self.plan, &self.constraint, &mut buffer);
-        self.say("timetable", answer.err().as_ref(), &[answer.unwrap_or(0)]);
-        self.out.extend_from_slice(&buffer);
+        self.say_timetable("W", answer, &buffer);
+    }
+
+    fn timetable(&mut self, room: usize, times: &[u32]) {
+        let mut buffer = vec![b'#'; room];
+        let answer = timetable(&self.plan, &self.constraint, times, &mut buffer);
+        self.say_timetable("Y", answer, &buffer);
+    }
+
+    fn say_timetable(
+        &mut self,
+        command: &'static str,
+        answer: Result<u64, Refusal>,
+        buffer: &[u8],
+    ) {
+        self.say(command, "timetable", answer.err().as_ref(), &[answer.unwrap_or(0)]);
+        self.out.extend_from_slice(buffer);
         self.out.push(b'\n');
+    }
+
+    /// Leaves the kept state alone.
+    fn replay(&mut self, reports: &[u64]) {
+        let (_, answer) = replay(&self.plan, &self.constraint, reports);
+        let (mut started, mut ticks) = (0, Vec::new());
+        if let Ok(replayed) = &answer {
+            started = replayed.started;
+            for tick in &replayed.ticks {
+                let [number, place] = number_and_place(tick.err().as_ref());
+                self.reached.note(TICKS_OF_Z, number);
+                ticks.extend([number, place, tick.unwrap_or(0)]);
+            }
+        }
+        self.say("Z", "replay", answer.err().as_ref(), &[&[started], &ticks[..]].concat());
     }
 }
 

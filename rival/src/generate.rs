@@ -1,11 +1,13 @@
 //! Random driver sessions. A driver of our own is led along, so that most
 //! commands are legal and the others are wrong on purpose.
-use crate::driver::Driver;
+use crate::driver::{Driver, LONGEST_LIST, MOST_ROOM, MOST_TIMES, TOO_LONG};
+use crate::inputs::{self, EDGES};
+use crate::limits::*;
 use crate::plan::*;
 use crate::random::Random;
 use crate::simulate::{bound, worst_times};
-use crate::state::LAST_INSTANT;
 use crate::texts;
+use crate::timetable::text;
 
 pub struct Session {
     random: Random,
@@ -50,11 +52,13 @@ impl Session {
         if self.random.once_in(2) || accepted {
             self.give("S");
         }
+        // Every third session is mostly timetables of given times and replays.
+        let kinds = if self.random.once_in(3) { 28 } else { 16 };
         for _ in 0..if accepted { self.random.from(6, 30) } else { 4 } {
-            match self.random.below(14) {
+            match self.random.below(kinds) {
                 0 => self.give("B"),
                 1 | 2 => self.simulate(),
-                3 => self.timetable(),
+                3 => self.worst_timetable(),
                 4 if self.random.once_in(5) => self.alter_pair(),
                 4 => self.alter_plan(),
                 5 | 6 => self.alter_state(),
@@ -62,7 +66,9 @@ impl Session {
                 8 => self.odd_line(),
                 9 => self.late_instants(),
                 10 => self.give("S"),
-                _ => self.ticks(),
+                11..=13 => self.ticks(),
+                14..=20 if kinds > 16 || self.random.once_in(2) => self.timetable(),
+                _ => self.replay(),
             }
         }
         if accepted && self.random.once_in(2) {
@@ -71,49 +77,56 @@ impl Session {
         self.give("Q");
     }
 
-    /// Times that are legal, or not, or not as many as tasks.
-    fn simulate(&mut self) {
-        let (plan, constraint) = (self.driver.plan.clone(), self.driver.constraint.clone());
-        let mut times: Vec<u64> = vec![1; self.random.below(81) as usize];
-        if crate::check::check(&plan, &constraint).is_ok() {
-            let chosen = constraint.chosen();
-            times = (0..plan.tasks as usize)
-                .map(|t| pair(t, chosen[t]))
-                .map(|at| self.random.from(plan.best[at] as u64, plan.worst[at] as u64))
-                .collect();
-        }
-        match self.random.below(8) {
-            0 => drop(times.pop()),
-            1 => times.push(1),
-            2 => times.truncate(self.random.below(3) as usize),
-            3 | 4 if !times.is_empty() => {
-                let at = self.random.below(times.len() as u64) as usize;
-                let odd = [0, 1, 2, 65_535, 65_536, 4_294_967_295, 4_294_967_296];
-                times[at] = self.random.pick(&odd);
-            }
-            _ => {}
-        }
-        let fields: String = times.iter().map(|t| format!("\t{t}")).collect();
-        self.give(&format!("M{fields}"));
+    /// A command with a list of numbers after its other fields.
+    fn give_list(&mut self, command: &str, list: &[u64]) {
+        let fields: String = list.iter().map(|n| format!("\t{n}")).collect();
+        self.give(&format!("{command}{fields}"));
     }
 
-    /// Lengths around the needed one.
+    fn simulate(&mut self) {
+        let Driver { plan, constraint, .. } = &self.driver;
+        let times = inputs::times(&mut self.random, plan, constraint);
+        self.give_list("M", &times);
+    }
+
+    fn worst_timetable(&mut self) {
+        let Driver { plan, constraint, .. } = &self.driver;
+        let worst = bound(plan, constraint).map(|_| worst_times(plan, constraint));
+        let room = self.room(&worst.unwrap_or_default());
+        self.give(&format!("W\t{room}"));
+    }
+
     fn timetable(&mut self) {
-        let (plan, constraint) = (&self.driver.plan, &self.driver.constraint);
-        let needed = bound(plan, constraint).map_or(10, |_| {
-            let mut buffer = [0; 1_306];
-            let times = worst_times(plan, constraint);
-            crate::timetable::timetable(plan, constraint, &times, &mut buffer).unwrap_or(0)
-        });
-        let any = self.random.below(2_002);
-        let length = self.random.pick(&[needed, needed, needed - 1, needed + 1, needed + 7, 0, any]);
-        self.give(&format!("W\t{length}"));
+        let Driver { plan, constraint, .. } = &self.driver;
+        let times = inputs::times(&mut self.random, plan, constraint);
+        let short: Vec<u32> = times.iter().map(|&time| time as u32).collect();
+        let room = self.room(&short);
+        self.give_list(&format!("Y\t{room}"), &times);
+    }
+
+    fn replay(&mut self) {
+        let Driver { plan, constraint, .. } = &self.driver;
+        let reports = inputs::reports(&mut self.random, plan, constraint);
+        self.give_list("Z", &reports);
+    }
+
+    /// Room around what the timetable of these times needs, or none, or any.
+    fn room(&mut self, times: &[u32]) -> u64 {
+        let Driver { plan, constraint, .. } = &self.driver;
+        let needed = text(plan, constraint, times).map_or(10, |text| text.len() as u64);
+        let any = self.random.below(MOST_ROOM + 2);
+        self.random.pick(&[needed, needed, needed - 1, needed + 1, needed + 7, 0, any])
+    }
+
+    /// The kept plan's tasks and types, within the limits.
+    fn sizes(&self) -> (u64, u64) {
+        let Plan { tasks, types, .. } = self.driver.plan;
+        (tasks.min(TASKS as u64), types.min(TYPES as u64))
     }
 
     /// A value that may be legal, is on an edge, or is anything.
     fn value(&mut self, part: u64, old: u64) -> u64 {
-        let (tasks, types) = (self.driver.plan.tasks.min(64), self.driver.plan.types.min(8));
-        let edges = [0, 1, 2, 7, 8, 9, 63, 64, 65, 65_535, 65_536, 1 << 32, (1 << 32) - 1, u64::MAX];
+        let (tasks, types) = self.sizes();
         match self.random.below(9) {
             6.. => match part {
                 5 | 11 => old ^ 1 << self.random.below(tasks.max(1)),
@@ -123,23 +136,25 @@ impl Session {
             },
             0 => old.wrapping_add(1),
             1 => old.wrapping_sub(1),
-            2 => self.random.below(9),
-            3 => old ^ 1 << self.random.below(64),
+            2 => self.random.below(UNITS as u64 + 1),
+            3 => old ^ 1 << self.random.below(TASKS as u64),
             4 => self.random.number(),
-            _ => self.random.pick(&edges),
+            _ => self.random.pick(&EDGES),
         }
     }
 
     /// An index that is mostly one of the plan's own.
     fn index(&mut self, part: u64) -> u64 {
-        let (tasks, types) = (self.driver.plan.tasks.min(64), self.driver.plan.types.min(8));
+        let (tasks, types) = self.sizes();
         if self.random.once_in(8) {
-            return self.random.pick(&[0, 7, 8, 63, 64, 511, 512, u64::MAX]);
+            let ends = [TYPES, TASKS, PAIRS].map(|length| length as u64 - self.random.below(2));
+            let other = self.random.pick(&[0, u64::MAX]);
+            return self.random.pick(&[other, ends[0], ends[1], ends[2]]);
         }
         match part {
             0 | 2 | 6 | 9 | 10 | 11 => 0,
             1 => self.random.below(types + 1),
-            3 | 4 => self.random.below(tasks + 1) * 8 + self.random.below(types + 1),
+            3 | 4 => self.random.below(tasks + 1) * TYPES as u64 + self.random.below(types + 1),
             _ => self.random.below(tasks + 1),
         }
     }
@@ -157,8 +172,15 @@ impl Session {
 
     fn alter_plan(&mut self) {
         let back = self.put('P', &[0, 1, 2, 3, 4, 5, 5, 6, 7, 7, 8, 8, 9]);
-        let then = self.random.pick(&["K", "S", "B", "K", "W\t1306", "M\t1"]);
-        self.give(then);
+        match self.random.below(9) {
+            0 | 1 => self.timetable(),
+            2 | 3 => self.replay(),
+            4 => self.give(&format!("W\t{LONGEST_TIMETABLE}")),
+            _ => {
+                let then = self.random.pick(&["K", "S", "B", "M\t1"]);
+                self.give(then);
+            }
+        }
         if let Some(back) = back.filter(|_| !self.random.once_in(12)) {
             self.give(&back);
         }
@@ -167,9 +189,9 @@ impl Session {
     /// Puts a legal pair of times somewhere, perhaps for an absent task or type.
     fn alter_pair(&mut self) {
         let (letter, then) = self.random.pick(&[('P', "K"), ('P', "S"), ('R', "T\t0")]);
-        let task = self.random.below(self.driver.plan.tasks.min(63) + 1);
-        let at = task * 8 + self.random.below(8);
-        let (best, worst) = times_of(&self.driver, letter, at as usize);
+        let reach = self.driver.plan.tasks.min(TASKS as u64 - 1) + 1;
+        let at = pair(self.random.below(reach) as usize, self.random.below(TYPES as u64) as usize);
+        let (best, worst) = times_of(&self.driver, letter, at);
         let time = self.random.from(1, 5);
         self.give(&format!("{letter}\t3\t{at}\t{time}"));
         let longer = time + self.random.below(2);
@@ -185,30 +207,16 @@ impl Session {
         }
         let parts = [0, 1, 1, 2, 3, 4, 5, 6, 7, 8, 9, 9, 9, 10, 10, 11, 11, 12, 12, 13, 13, 14];
         let back = self.put('R', &parts);
-        let report = self.legal_report();
-        self.give(&format!("T\t{report}"));
+        self.legal_tick();
         if let Some(back) = back.filter(|_| !self.random.once_in(12)) {
             self.give(&back);
         }
     }
 
-    /// A report that a sound state takes; 0 for others.
-    fn legal_report(&mut self) -> u64 {
-        let state = &self.driver.state;
-        if !state.sound() {
-            return 0;
-        }
-        let chosen = state.constraint.chosen();
-        let mut report = 0;
-        for t in members(state.running()) {
-            let (ran, at) = (state.instant + 1 - state.starts[t], pair(t, chosen[t]));
-            let must = ran >= state.plan.worst[at];
-            let may = ran >= state.plan.best[at];
-            if must || (may && self.random.once_in(3)) {
-                report |= 1 << t;
-            }
-        }
-        report
+    /// A tick with a report that the state takes, if it is sound.
+    fn legal_tick(&mut self) {
+        let report = inputs::legal_report(&mut self.random, &self.driver.state);
+        self.give(&format!("T\t{report}"));
     }
 
     fn ticks(&mut self) {
@@ -216,15 +224,9 @@ impl Session {
             self.give("S");
         }
         for _ in 0..self.random.from(1, 12) {
-            let mut report = self.legal_report();
-            match self.random.below(14) {
-                0 => report |= 1 << self.random.below(64),
-                1 => report &= self.random.number(),
-                2 => report = self.random.number(),
-                3 if self.driver.state.sound() => report |= self.driver.state.running(),
-                4 => report = 0,
-                5 => self.jump(),
-                _ => {}
+            let report = inputs::some_report(&mut self.random, &self.driver.state);
+            if self.random.once_in(14) {
+                self.jump();
             }
             self.give(&format!("T\t{report}"));
             if self.last_in_time().is_none() && self.random.once_in(2) {
@@ -259,8 +261,7 @@ impl Session {
             if last > self.driver.state.instant + 3 {
                 self.jump();
             }
-            let report = self.legal_report();
-            self.give(&format!("T\t{report}"));
+            self.legal_tick();
         }
         let report = self.random.pick(&[0, 1, u64::MAX]);
         self.give(&format!("T\t{report}"));
@@ -279,24 +280,51 @@ impl Session {
             self.give(&format!("R\t12\t{t}\t{start}"));
         }
         for _ in 0..4 {
-            let report = self.legal_report();
-            self.give(&format!("T\t{report}"));
+            self.legal_tick();
         }
     }
 
     fn odd_line(&mut self) {
-        let long = "T\t18446744073709551616";
         let lines = [
-            "", "K\t", "K\t0", "B ", "Z", "k", "T", "T\t", "T\t-1", "T\t1\t2", "S\r", "Q\t1", "W",
-            "W\t2001", "W\t00000000000000000012", "W\t000000000000000000012", long, "P\t0\t0",
-            "P\t9\t0\t0", "R\t14\t0\t0", "P\t0\t1\t1", "R\t9\t0\t4294967296", "M\t", "\tK", "KK",
-            "P\t1\t8\t1", "R\t3\t512\t1", "T\t18446744073709551615", "P\t7\t64\t0", "M\t4294967296",
+            "", "K\t", "K\t0", "B ", "k", "T", "T\t", "T\t-1", "T\t1\t2", "S\r", "Q\t1", "W", "Y", "z",
+            "W\t00000000000000000012", "W\t000000000000000000012", "T\t18446744073709551615",
+            "T\t18446744073709551616", "P\t0\t0", "P\t9\t0\t0", "R\t14\t0\t0", "P\t0\t1\t1",
+            "R\t9\t0\t4294967296", "M\t", "\tK", "KK", "M\t4294967296", "Y\t", "Y\t9\t", "Y\t9\t-1",
+            "Y\t9\t4294967296", "Z\t", "Z\t-1", "Z\t0\t", "Z\t1\t18446744073709551616", "Z\t18446744073709551615",
         ];
+        let beyond = [
+            format!("W\t{}", MOST_ROOM + 1),
+            format!("Y\t{}", MOST_ROOM + 1),
+            format!("P\t1\t{TYPES}\t1"),
+            format!("R\t3\t{PAIRS}\t1"),
+            format!("P\t7\t{TASKS}\t0"),
+        ];
+        let lines: Vec<&str> = lines.into_iter().chain(beyond.iter().map(String::as_str)).collect();
         let line = self.random.pick(&lines);
         self.give(line);
         if self.random.once_in(4) {
-            let times = "\t1".repeat(self.random.from(79, 81) as usize);
-            self.give(&format!("M{times}"));
+            self.long_list();
         }
+        if self.random.once_in(4) {
+            self.long_line();
+        }
+    }
+
+    /// About as many numbers as a command takes.
+    fn long_list(&mut self) {
+        let command = self.random.pick(&["M", "Y\t9", "Z"]);
+        let count = self.random.from(LONGEST_LIST as u64, MOST_TIMES as u64 + 1);
+        self.give_list(command, &vec![1; count as usize]);
+    }
+
+    /// A line of about as many bytes as are read, by zeros before each number.
+    fn long_line(&mut self) {
+        let mut line = self.random.pick(&["M", "Y", "Z"]).to_string();
+        let length = TOO_LONG - 2 + self.random.below(4) as usize;
+        while line.len() < length {
+            let digits = (length - line.len() - 1).min(20);
+            line += &format!("\t{:0digits$}", 1);
+        }
+        self.give(&line);
     }
 }

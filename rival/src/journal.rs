@@ -1,4 +1,5 @@
 //! The bench book: notes kept by hand, with nothing taken from a run state.
+use crate::limits::*;
 use crate::plan::*;
 
 pub struct Journal {

@@ -1,8 +1,5 @@
 //! The plan, the constraint and the refusal.
-
-pub const TYPES: usize = 8;
-pub const TASKS: usize = 64;
-pub const PAIRS: usize = TASKS * TYPES;
+use crate::limits::*;
 
 #[derive(Clone, PartialEq, Eq, Debug)]
 pub struct Plan {
@@ -44,6 +41,11 @@ impl Plan {
             predecessors: [0; TASKS],
         }
     }
+
+    /// Neither too few nor too many types and tasks.
+    pub fn counts_are_right(&self) -> bool {
+        (1..=TYPES as u64).contains(&self.types) && (1..=TASKS as u64).contains(&self.tasks)
+    }
 }
 
 impl Constraint {
@@ -66,9 +68,9 @@ pub fn pair(task: usize, kind: usize) -> usize {
     task * TYPES + kind
 }
 
-/// The set of the tasks 0 to n - 1, n at most 64.
+/// The set of the tasks 0 to n - 1.
 pub fn first_tasks(n: u64) -> u64 {
-    if n >= 64 { u64::MAX } else { (1 << n) - 1 }
+    if n >= u64::BITS.into() { u64::MAX } else { (1 << n) - 1 }
 }
 
 /// The task numbers of a set, lowest first.

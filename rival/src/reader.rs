@@ -1,7 +1,6 @@
 //! Reading a plan text: refusals 1 to 7.
+use crate::limits::*;
 use crate::plan::*;
-
-pub const LONGEST_TEXT: usize = 32_768;
 
 /// What was read so far.
 struct Reading {
@@ -53,10 +52,10 @@ fn form(line: &[u8]) -> Option<(usize, Vec<usize>)> {
     (fields.len() == FORMS[kind].1).then_some((kind, fields))
 }
 
-/// 1 to 5 digits, no leading zero except for 0 itself.
+/// At least one digit and not too many, no leading zero except for 0 itself.
 fn field(bytes: &[u8]) -> Option<usize> {
     let leading_zero = bytes.len() > 1 && bytes[0] == b'0';
-    if bytes.is_empty() || bytes.len() > 5 || leading_zero {
+    if bytes.is_empty() || bytes.len() > DIGITS || leading_zero {
         return None;
     }
     if !bytes.iter().all(u8::is_ascii_digit) {
@@ -67,9 +66,9 @@ fn field(bytes: &[u8]) -> Option<usize> {
 
 fn in_range(kind: usize, f: &[usize]) -> bool {
     let (is_type, is_task) = (|n| n < TYPES, |n| n < TASKS);
-    let is_time = |n| (1..=65_535).contains(&n);
+    let is_time = |n| (1..=LONGEST_TIME as usize).contains(&n);
     match kind {
-        U => is_type(f[0]) && (1..=8).contains(&f[1]),
+        U => is_type(f[0]) && (1..=UNITS).contains(&f[1]),
         T => is_task(f[0]) && is_type(f[1]) && is_time(f[2]) && is_time(f[3]),
         A => is_task(f[0]) && is_task(f[1]),
         _ => is_task(f[0]) && is_type(f[1]),

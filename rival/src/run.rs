@@ -1,4 +1,5 @@
-//! A run, instant by instant, straight from "Running rules".
+//! A run, straight from "Running rules".
+use crate::limits::*;
 use crate::plan::*;
 
 /// All starts and finishes by task number, and the greatest finish.
@@ -37,43 +38,27 @@ pub fn walk(plan: &Plan, constraint: &Constraint, started: u64, finished: u64) -
     just_started
 }
 
-/// The run with one time for each task, by task number.
+/// The run with one time for each task, by task number. Only for accepted plans and constraints.
+/// Between two finishes no walk starts anything, so the instant moves on from finish to finish.
 pub fn run(plan: &Plan, constraint: &Constraint, times: &[u32; TASKS]) -> Times {
-    let all = first_tasks(plan.tasks);
     let mut result = Times::zero();
-    let (mut instant, mut started, mut begun, mut finished) = (0u32, 0u64, 0u64, 0u64);
+    let (mut instant, mut started, mut running, mut finished) = (0u32, 0u64, 0u64, 0u64);
     loop {
-        let up = time_is_up(begun & !finished, instant, times, &result.starts);
-        for t in members_of(up) {
-            result.finishes[t] = instant;
-            result.response = instant;
+        let just_started = walk(plan, constraint, started, finished);
+        for t in members(just_started) {
+            result.starts[t] = instant;
+            result.finishes[t] = instant + times[t];
         }
+        started += just_started.count_ones() as u64;
+        running |= just_started;
+
+        let next = members(running).map(|t| result.finishes[t]).min();
+        let Some(next) = next else { return result };
+        let up = members(running).filter(|&t| result.finishes[t] == next);
+        let up = up.fold(0, |set, t| set | 1 << t);
+        running &= !up;
         finished |= up;
-        if finished == all {
-            return result;
-        }
-        // Without a finish the walk stops where it stopped before.
-        if up != 0 || instant == 0 {
-            let just_started = walk(plan, constraint, started, finished);
-            for t in members_of(just_started) {
-                result.starts[t] = instant;
-            }
-            started += just_started.count_ones() as u64;
-            begun |= just_started;
-        }
-        instant += 1;
+        instant = next;
+        result.response = next;
     }
-}
-
-fn members_of(mut set: u64) -> impl Iterator<Item = usize> {
-    std::iter::from_fn(move || {
-        let lowest = (set != 0).then(|| set.trailing_zeros() as usize)?;
-        set &= set - 1;
-        Some(lowest)
-    })
-}
-
-fn time_is_up(running: u64, instant: u32, times: &[u32; TASKS], starts: &[u32; TASKS]) -> u64 {
-    let up = |t: &usize| starts[*t] + times[*t] == instant;
-    members_of(running).filter(up).fold(0, |set, t| set | 1 << t)
 }

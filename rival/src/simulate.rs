@@ -1,5 +1,6 @@
 //! The simulation and the bound: refusals 8 to 11, 17 and 18.
 use crate::check::check;
+use crate::limits::*;
 use crate::plan::*;
 use crate::run::{run, Times};
 

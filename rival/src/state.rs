@@ -1,9 +1,8 @@
-//! The live run: start, soundness (12) and tick (13 to 16).
+//! The live run: start, soundness (12), tick (13 to 16) and lists of ticks.
 use crate::check::check;
+use crate::limits::*;
 use crate::plan::*;
 use crate::run::walk;
-
-pub const LAST_INSTANT: u32 = 4_194_240;
 
 #[derive(Clone, PartialEq, Eq, Debug)]
 pub struct State {
@@ -27,6 +26,11 @@ impl State {
             starts: [0; TASKS],
             finishes: [0; TASKS],
         }
+    }
+
+    /// At instant 0, before the walk.
+    pub fn before_the_walk(plan: &Plan, constraint: &Constraint) -> State {
+        State { plan: plan.clone(), constraint: constraint.clone(), ..State::zero() }
     }
 
     /// The first of the order. Only if no more are started than there are tasks.
@@ -126,12 +130,37 @@ impl State {
 
 /// The state after the walk of instant 0, and the tasks started.
 pub fn start(plan: &Plan, constraint: &Constraint) -> (State, Result<u64, Refusal>) {
-    let mut state = State::zero();
     if let Err(refusal) = check(plan, constraint) {
-        return (state, Err(refusal));
+        return (State::zero(), Err(refusal));
     }
-    state.plan = plan.clone();
-    state.constraint = constraint.clone();
+    let mut state = State::before_the_walk(plan, constraint);
     let just_started = state.walk();
     (state, Ok(just_started))
+}
+
+/// The tasks started at instant 0, and the answer to each report.
+pub struct Replayed {
+    pub started: u64,
+    pub ticks: Vec<Result<u64, Refusal>>,
+}
+
+/// Start, then a tick for each report on the state that the one before gave back, accepted or
+/// refused. If start refuses there are no ticks.
+pub fn replay(
+    plan: &Plan,
+    constraint: &Constraint,
+    reports: &[u64],
+) -> (State, Result<Replayed, Refusal>) {
+    let (mut state, answer) = start(plan, constraint);
+    let started = match answer {
+        Ok(started) => started,
+        Err(refusal) => return (state, Err(refusal)),
+    };
+    let mut ticks = Vec::new();
+    for &report in reports {
+        let (next, answer) = state.tick(report);
+        state = next;
+        ticks.push(answer);
+    }
+    (state, Ok(Replayed { started, ticks }))
 }

@@ -1,8 +1,10 @@
 //! Random plan texts: sound, damaged, and as long as may be.
+use crate::limits::*;
+use crate::plan::{Constraint, Plan};
 use crate::random::Random;
-use crate::reader::LONGEST_TEXT;
+use crate::reader::read;
 
-/// A text: mostly sound, sometimes damaged, sometimes about 32,768 bytes long.
+/// A text: mostly sound, sometimes damaged, sometimes about as long as may be.
 pub fn text(random: &mut Random) -> Vec<u8> {
     if random.once_in(40) {
         return long_text(random);
@@ -36,12 +38,18 @@ fn times(random: &mut Random, greatest: u64) -> (u64, u64) {
     (best, worst)
 }
 
+/// A plan and constraint that the check takes.
+pub fn sound_plan(random: &mut Random) -> (Plan, Constraint) {
+    read(&join(&sound_lines(random))).expect("a text that is read")
+}
+
 /// Lines that are read and that the check takes.
 pub fn sound_lines(random: &mut Random) -> Vec<String> {
-    let types = random.pick(&[1, 2, 2, 3, 3, 4, 8]);
-    let tasks = random.pick(&[1, 2, 3, 4, 5, 6, 7, 8, 10, 12, 20, 40, 63, 64]);
-    let greatest = random.pick(&[1, 2, 3, 4, 5, 8, 30, 65_535]);
-    let most_units = random.pick(&[1, 2, 3, 8]);
+    let types = random.pick(&[1, 2, 2, 3, 3, 4, TYPES as u64]);
+    let most_tasks = TASKS as u64;
+    let tasks = random.pick(&[1, 2, 3, 4, 5, 6, 7, 8, 10, 12, 20, 40, most_tasks - 1, most_tasks]);
+    let greatest = random.pick(&[1, 2, 3, 4, 5, 8, 30, LONGEST_TIME.into()]);
+    let most_units = random.pick(&[1, 2, 3, UNITS as u64]);
     let mut lines: Vec<String> =
         (0..types).map(|y| format!("U\t{y}\t{}", random.from(1, most_units))).collect();
     let mut order: Vec<u64> = (0..tasks).collect();
@@ -137,13 +145,23 @@ fn damage_field(random: &mut Random, line: Option<&mut String>) {
     let Some(line) = line else { return };
     let mut parts: Vec<String> = line.split('\t').map(str::to_string).collect();
     let at = random.below(parts.len() as u64) as usize;
-    let odd = ["07", "", "8", "9", "64", "65", "63", "65535", "65536", "99999", "100000", "-1", "0"];
     parts[at] = match random.below(4) {
-        0 | 1 => random.pick(&odd).to_string(),
+        0 | 1 => odd_field(random),
         2 if at == 0 => random.pick(&["U", "T", "A", "C", "R", "u", "TT"]).to_string(),
         _ => random.below(9).to_string(),
     };
     *line = parts.join("\t");
+}
+
+/// A field on the edge of what a field may be, or a little beyond.
+fn odd_field(random: &mut Random) -> String {
+    let edge = random.pick(&[TYPES, UNITS, TASKS, TASKS, LONGEST_TIME as usize]);
+    match random.below(8) {
+        0 => random.pick(&["07", "", "-1", "0"]).to_string(),
+        1 => "9".repeat(DIGITS),
+        2 => format!("1{}", "0".repeat(DIGITS)),
+        _ => (edge - 1 + random.below(3) as usize).to_string(),
+    }
 }
 
 fn damage_bytes(random: &mut Random, bytes: &mut Vec<u8>) {
@@ -161,22 +179,23 @@ fn damage_bytes(random: &mut Random, bytes: &mut Vec<u8>) {
     }
 }
 
-/// A text of 32,767 to 32,770 bytes, in which every line can be read.
+/// A text as long as may be, or a byte less or up to two more, in which every line can be read.
 fn long_text(random: &mut Random) -> Vec<u8> {
     text_of_length(LONGEST_TEXT - 1 + random.below(4) as usize)
 }
 
 /// All pairs, then arrows (round in circles too) up to this length.
 pub fn text_of_length(length: usize) -> Vec<u8> {
-    let mut text: String = (0..8).map(|y| format!("U\t{y}\t1\n")).collect();
-    for t in 0..64 {
-        for y in 0..8 {
-            text += &format!("T\t{t}\t{y}\t{}\t65535\n", 10_000 + t);
+    let mut text: String = (0..TYPES).map(|y| format!("U\t{y}\t1\n")).collect();
+    for t in 0..TASKS {
+        for y in 0..TYPES {
+            text += &format!("T\t{t}\t{y}\t{}\t{LONGEST_TIME}\n", LONGEST_TIME - t as u32);
         }
     }
     // Arrows of 6, 7 and 8 bytes, by the digits of their tasks.
     let mut arrows: [Vec<String>; 3] = Default::default();
-    for (from, to) in (0..64).flat_map(|f| (0..64).map(move |t| (f, t))).filter(|(f, t)| f != t) {
+    let ends = (0..TASKS).flat_map(|from| (0..TASKS).map(move |to| (from, to)));
+    for (from, to) in ends.filter(|(from, to)| from != to) {
         let digits = (from > 9) as usize + (to > 9) as usize;
         arrows[digits].push(format!("A\t{from}\t{to}\n"));
     }

@@ -1,14 +1,10 @@
 //! The timetable, into a lent buffer: refusal 19 after those of the simulation.
+use crate::limits::*;
 use crate::plan::*;
 use crate::simulate::{bound, simulate};
 
-/// Gives the bytes written. A refusal alters nothing.
-pub fn timetable(
-    plan: &Plan,
-    constraint: &Constraint,
-    times: &[u32],
-    buffer: &mut [u8],
-) -> Result<u64, Refusal> {
+/// The whole text, before any buffer is lent.
+pub fn text(plan: &Plan, constraint: &Constraint, times: &[u32]) -> Result<String, Refusal> {
     let run = simulate(plan, constraint, times)?;
     let mut text = String::new();
     for p in 0..plan.tasks as usize {
@@ -17,6 +13,17 @@ pub fn timetable(
         text += &format!("{task}\t{kind}\t{start}\t{finish}\n");
     }
     text += &format!("R\t{}\n", run.response);
+    Ok(text)
+}
+
+/// Gives the bytes written. A refusal alters nothing.
+pub fn timetable(
+    plan: &Plan,
+    constraint: &Constraint,
+    times: &[u32],
+    buffer: &mut [u8],
+) -> Result<u64, Refusal> {
+    let text = text(plan, constraint, times)?;
     let needed = text.len();
     if buffer.len() < needed {
         return refuse(19, needed as u64);
@@ -38,7 +45,7 @@ pub fn of_worst_times(
 
 /// The program of document 01: a plan text in, a timetable or one line out.
 pub fn program(text: &[u8]) -> Vec<u8> {
-    let mut buffer = [0; 1_306];
+    let mut buffer = [0; LONGEST_TIMETABLE];
     let answer = crate::reader::read(text)
         .and_then(|(plan, constraint)| of_worst_times(&plan, &constraint, &mut buffer));
     match answer {

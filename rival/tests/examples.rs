@@ -1,5 +1,6 @@
 //! P1 to P12 and the "Others" of document 01.
 use rival::check::check;
+use rival::limits::*;
 use rival::plan::*;
 use rival::reader::read;
 use rival::run::Times;
@@ -136,21 +137,25 @@ fn empty_text() {
 
 #[test]
 fn longest_text() {
-    for length in [32_766, 32_767, 32_768] {
+    for length in LONGEST_TEXT - 2..=LONGEST_TEXT {
         let text = text_of_length(length);
         assert_eq!(text.len(), length);
         assert!(read(&text).is_ok());
     }
-    assert_eq!(text_of_length(32_769).len(), 32_769);
-    assert_eq!(read(&text_of_length(32_769)), Err(no(1, 0)));
+    let longer = text_of_length(LONGEST_TEXT + 1);
+    assert_eq!(longer.len(), LONGEST_TEXT + 1);
+    assert_eq!(read(&longer), Err(no(1, 0)));
 }
 
 #[test]
 fn longest_time() {
-    let text = |field: &str| format!("U\t0\t1\nT\t0\t0\t1\t{field}\nC\t0\t0\n");
-    assert_eq!(read(text("65535").as_bytes()).unwrap().0.worst[0], 65_535);
-    assert_eq!(read(text("65536").as_bytes()), Err(no(3, 2)));
-    assert_eq!(read(text("07").as_bytes()), Err(no(2, 2)));
+    let text = |field: String| format!("U\t0\t1\nT\t0\t0\t1\t{field}\nC\t0\t0\n").into_bytes();
+    let longest = read(&text(LONGEST_TIME.to_string()));
+    assert_eq!(longest.unwrap().0.worst[0], LONGEST_TIME);
+    assert_eq!(read(&text((LONGEST_TIME + 1).to_string())), Err(no(3, 2)));
+    assert_eq!(read(&text("9".repeat(DIGITS))), Err(no(3, 2)));
+    assert_eq!(read(&text("1".repeat(DIGITS + 1))), Err(no(2, 2)));
+    assert_eq!(read(&text("07".to_string())), Err(no(2, 2)));
 }
 
 #[test]

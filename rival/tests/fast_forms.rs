@@ -1,30 +1,33 @@
 //! The fast forms answer as the plain ones do.
 use rival::driver::Driver;
 use rival::fast;
+use rival::inputs::{reports, some_report, EDGES};
+use rival::limits::*;
 use rival::plan::*;
 use rival::random::Random;
-use rival::state::{start, State, LAST_INSTANT};
-use rival::texts;
+use rival::reached::Reached;
+use rival::state::{start, State};
+use rival::texts::{self, sound_plan};
 
-/// How often each refusal was met; entry 0 counts what was accepted.
-struct Met([u64; 20]);
+/// How often each refusal was met.
+#[derive(Default)]
+struct Met(Reached);
 
 impl Met {
     fn note<T>(&mut self, answer: &Result<T, Refusal>) {
-        let number = answer.as_ref().err().map_or(0, |refusal| refusal.number);
-        self.0[number as usize] += 1;
+        self.0.note("", answer.as_ref().err().map_or(0, |refusal| refusal.number));
     }
 
-    fn all(&self, numbers: &[usize]) {
+    fn all(&self, numbers: &[u64]) {
         for &number in numbers {
-            assert!(self.0[number] > 0, "refusal {number} was never met");
+            assert!(self.0.total(number) > 0, "refusal {number} was never met");
         }
     }
 }
 
 #[test]
 fn read() {
-    let (mut random, mut met) = (Random::new(1), Met([0; 20]));
+    let (mut random, mut met) = (Random::new(1), Met::default());
     for _ in 0..2_000 {
         let text = texts::text(&mut random);
         let plain = rival::reader::read(&text);
@@ -34,17 +37,13 @@ fn read() {
     met.all(&[0, 1, 2, 3, 4, 5, 6, 7]);
 }
 
-fn sound_plan(random: &mut Random) -> (Plan, Constraint) {
-    let text = texts::sound_lines(random).join("\n") + "\n";
-    rival::reader::read(text.as_bytes()).unwrap()
-}
-
 /// Puts something else in one place.
 fn damage(random: &mut Random, plan: &mut Plan, constraint: &mut Constraint) {
-    let value = random.pick(&[0, 1, 2, 7, 8, 9, 62, 63, 64, 65, 65_535, 65_536, 1 << 32, u64::MAX]);
-    let reach = if random.once_in(4) { 64 } else { plan.tasks.clamp(1, 64) };
+    let value = random.pick(&EDGES);
+    let most = TASKS as u64;
+    let reach = if random.once_in(4) { most } else { plan.tasks.clamp(1, most) };
     let (p, q) = (random.below(reach) as usize, random.below(reach) as usize);
-    let kind = random.below(8) as usize;
+    let kind = random.below(TYPES as u64) as usize;
     match random.below(14) {
         0 => plan.types = value,
         1 => plan.tasks = value,
@@ -70,7 +69,7 @@ fn damage(random: &mut Random, plan: &mut Plan, constraint: &mut Constraint) {
 
 #[test]
 fn check() {
-    let (mut random, mut met) = (Random::new(2), Met([0; 20]));
+    let (mut random, mut met) = (Random::new(2), Met::default());
     for _ in 0..300 {
         let (plan, constraint) = sound_plan(&mut random);
         for damages in [0, 1, 1, 1, 1, 1, 1, 1, 1, 2, 2, 3] {
@@ -126,7 +125,7 @@ fn compare(driver: &Driver, command: &[u8], met: &mut Met) {
 
 #[test]
 fn start_simulate_and_tick() {
-    let mut met = Met([0; 20]);
+    let mut met = Met::default();
     for number in 0..70 {
         let (input, _) = rival::generate::session(1, number);
         let (text, commands) = split(&input);
@@ -139,19 +138,9 @@ fn start_simulate_and_tick() {
     met.all(&[0, 8, 12, 13, 14, 15, 16, 17, 18]);
 }
 
-/// A report that is often legal.
-fn some_report(random: &mut Random, state: &State) -> u64 {
-    match random.below(4) {
-        0 => random.number(),
-        1 => 0,
-        _ if state.started == 0 => 1,
-        _ => state.running() & random.number(),
-    }
-}
-
 /// Puts something nearby in one place of a state.
 fn alter(random: &mut Random, state: &mut State) {
-    let t = random.below(state.plan.tasks.min(63) + 1) as usize % TASKS;
+    let t = random.below(state.plan.tasks + 1) as usize % TASKS;
     let kind = random.below(state.plan.types) as usize;
     let near = (state.instant + 2).saturating_sub(random.below(5) as u32);
     match random.below(8) {
@@ -168,7 +157,7 @@ fn alter(random: &mut Random, state: &mut State) {
 
 #[test]
 fn tick_on_altered_states() {
-    let (mut random, mut met) = (Random::new(4), Met([0; 20]));
+    let (mut random, mut met) = (Random::new(4), Met::default());
     for _ in 0..200 {
         let (plan, constraint) = sound_plan(&mut random);
         let (mut state, _) = start(&plan, &constraint);
@@ -187,30 +176,29 @@ fn tick_on_altered_states() {
 
 #[test]
 fn replay() {
-    let mut random = Random::new(3);
-    for _ in 0..150 {
+    let (mut random, mut met) = (Random::new(3), Met::default());
+    for _ in 0..300 {
         let (mut plan, mut constraint) = sound_plan(&mut random);
         if random.once_in(4) {
             damage(&mut random, &mut plan, &mut constraint);
         }
-        let (mut state, _) = start(&plan, &constraint);
-        let (mut reports, mut plain) = (Vec::new(), Vec::new());
-        for _ in 0..random.below(40) {
-            let report = some_report(&mut random, &state);
-            let (next, answer) = state.tick(report);
-            state = next;
-            reports.push(report);
-            plain.push(answer);
-        }
+        let reports = reports(&mut random, &plan, &constraint);
         let n = reports.len();
         let (mut numbers, mut places, mut sets) = (vec![99; n], vec![99; n], vec![99; n]);
         let last =
             fast::replay(&plan, &constraint, &reports, &mut numbers, &mut places, &mut sets);
+        let (state, answer) = rival::state::replay(&plan, &constraint, &reports);
         assert_eq!(last, state);
-        for (i, answer) in plain.into_iter().enumerate() {
+        let fast = |i: usize| (numbers[i] as u64, places[i] as u64, sets[i]);
+        let Ok(plain) = answer else {
+            assert!((0..n).all(|i| fast(i) == (99, 99, 99)));
+            continue;
+        };
+        for (i, answer) in plain.ticks.into_iter().enumerate() {
+            met.note(&answer);
             let refusal = answer.err().unwrap_or(Refusal { number: 0, place: 0 });
-            let fast = (numbers[i] as u64, places[i] as u64, sets[i]);
-            assert_eq!(fast, (refusal.number, refusal.place, answer.unwrap_or(0)));
+            assert_eq!(fast(i), (refusal.number, refusal.place, answer.unwrap_or(0)));
         }
     }
+    met.all(&[0, 13, 14, 15, 16]);
 }

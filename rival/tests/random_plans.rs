@@ -1,16 +1,12 @@
 //! What must agree on random plans: the two simulations, the journal and the live run.
 use rival::journal::{Journal, Progress};
+use rival::inputs::{allowed_times, some_report};
+use rival::limits::*;
 use rival::plan::*;
 use rival::random::Random;
-use rival::reader::read;
-use rival::simulate::{bound, worst_times};
+use rival::simulate::{bound, simulate, worst_times};
 use rival::state::{start, State};
-use rival::texts::sound_lines;
-
-fn sound_plan(random: &mut Random) -> (Plan, Constraint) {
-    let text = sound_lines(random).join("\n") + "\n";
-    read(text.as_bytes()).unwrap()
-}
+use rival::texts::sound_plan;
 
 #[test]
 fn both_simulations_agree() {
@@ -26,6 +22,30 @@ fn both_simulations_agree() {
     }
 }
 
+/// The starts and finishes of ticks that report each task when its time is up.
+#[test]
+fn the_simulation_is_the_live_run() {
+    let mut random = Random::new(4);
+    for _ in 0..300 {
+        let (plan, constraint) = sound_plan(&mut random);
+        let times = allowed_times(&mut random, &plan, &constraint);
+        let run = simulate(&plan, &constraint, &times).unwrap();
+        if run.response > 500 {
+            continue;
+        }
+        let (mut state, _) = start(&plan, &constraint);
+        for instant in 1..=run.response {
+            let up = members(state.running()).filter(|&t| state.starts[t] + times[t] == instant);
+            let report = up.fold(0, |set, t| set | 1 << t);
+            let answer;
+            (state, answer) = state.tick(report);
+            assert!(answer.is_ok());
+        }
+        assert_eq!((state.starts, state.finishes), (run.starts, run.finishes));
+        assert_eq!(state.finished, first_tasks(plan.tasks));
+    }
+}
+
 /// The state has the journal's notes.
 fn same_notes(state: &State, journal: &Journal) {
     let started = journal.start.iter().flatten().count() as u64;
@@ -35,16 +55,6 @@ fn same_notes(state: &State, journal: &Journal) {
     assert_eq!(state.finished, finished.fold(0, |set, t| set | 1 << t));
     assert_eq!(state.starts, journal.start.map(|s| s.unwrap_or(0)));
     assert_eq!(state.finishes, journal.finish.map(|f| f.unwrap_or(0)));
-}
-
-fn some_report(random: &mut Random, state: &State) -> u64 {
-    match random.below(8) {
-        0 => random.number(),
-        1 => 1 << random.below(64),
-        2 => 0,
-        3 => state.running(),
-        _ => state.running() & random.number(),
-    }
 }
 
 #[test]

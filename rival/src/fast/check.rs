@@ -1,4 +1,5 @@
 //! The check, in one pass over the plan and one over the order.
+use crate::limits::*;
 use crate::plan::*;
 
 pub fn check(plan: &Plan, constraint: &Constraint) -> Result<(), Refusal> {
@@ -36,8 +37,7 @@ fn check_order(plan: &Plan, constraint: &Constraint) -> Result<(), Refusal> {
 
 /// The rules of "The plan".
 fn keeps_the_rules(plan: &Plan) -> bool {
-    (1..=8).contains(&plan.types)
-        && (1..=64).contains(&plan.tasks)
+    plan.counts_are_right()
         && units_are_right(plan)
         && pairs_are_right(plan)
         && predecessors_are_right(plan)
@@ -45,7 +45,8 @@ fn keeps_the_rules(plan: &Plan) -> bool {
 
 fn units_are_right(plan: &Plan) -> bool {
     let (present, absent) = plan.units.split_at(plan.types as usize);
-    present.iter().all(|units| (1..=8).contains(units)) && absent.iter().all(|&units| units == 0)
+    let in_range = |units: &u32| (1..=UNITS as u32).contains(units);
+    present.iter().all(in_range) && absent.iter().all(|&units| units == 0)
 }
 
 fn pairs_are_right(plan: &Plan) -> bool {
@@ -54,7 +55,7 @@ fn pairs_are_right(plan: &Plan) -> bool {
     let (worst, absent_worst) = plan.worst.split_at(end);
     // No branch for a single pair, so that many are looked at together.
     let wrong = best.iter().zip(worst).fold(false, |wrong, (&best, &worst)| {
-        wrong | (best > worst) | (worst > 65_535) | ((best == 0) & (worst != 0))
+        wrong | (best > worst) | (worst > LONGEST_TIME) | ((best == 0) & (worst != 0))
     });
     !wrong
         && all_zero(absent_best)

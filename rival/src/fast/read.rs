@@ -1,6 +1,6 @@
 //! Reading a plan text byte by byte, without splitting it first.
+use crate::limits::*;
 use crate::plan::*;
-use crate::reader::LONGEST_TEXT;
 
 /// Why a line is refused.
 type Number = u64;
@@ -68,15 +68,15 @@ impl Cursor<'_> {
         Some(digit as usize)
     }
 
-    /// A tab and 1 to 5 digits. After a first 0, or after 5 digits, one digit
-    /// more is left standing, where the line has a tab or its end.
+    /// A tab and a number. After a first 0, or after as many digits as a field
+    /// may have, one more is left standing, where the line has a tab or its end.
     fn field(&mut self) -> Option<usize> {
         if self.next()? != b'\t' {
             return None;
         }
         let mut value = self.digit()?;
         if value != 0 {
-            for _ in 0..4 {
+            for _ in 1..DIGITS {
                 let Some(digit) = self.digit() else { break };
                 value = value * 10 + digit;
             }
@@ -117,7 +117,7 @@ impl Reading {
     }
 
     fn units(&mut self, [kind, count]: [usize; 2]) -> Result<(), Number> {
-        number_if(kind >= TYPES || !(1..=8).contains(&count), 3)?;
+        number_if(kind >= TYPES || !(1..=UNITS).contains(&count), 3)?;
         self.follows(Kind::U)?;
         number_if(kind as u64 != self.plan.types, 6)?;
         self.plan.units[kind] = count as u32;
@@ -126,7 +126,7 @@ impl Reading {
     }
 
     fn times(&mut self, [task, kind, best, worst]: [usize; 4]) -> Result<(), Number> {
-        let is_time = |time| (1..=65_535).contains(&time);
+        let is_time = |time| (1..=LONGEST_TIME as usize).contains(&time);
         number_if(task >= TASKS || kind >= TYPES || !is_time(best) || !is_time(worst), 3)?;
         number_if(worst < best, 4)?;
         self.follows(Kind::T)?;

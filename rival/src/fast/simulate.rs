@@ -1,5 +1,6 @@
 //! The simulation, position by position: as quick for long times as for short.
 use super::check;
+use crate::limits::*;
 use crate::plan::*;
 use crate::run::Times;
 
@@ -39,7 +40,7 @@ fn outside(plan: &Plan, constraint: &Constraint, times: &[u32; TASKS]) -> u64 {
 /// greatest of that start, the predecessors' finishes and the first free unit.
 pub fn run(plan: &Plan, constraint: &Constraint, times: &[u32; TASKS]) -> Times {
     let mut result = Times::zero();
-    let mut free_at = [[0u32; 8]; TYPES];
+    let mut free_at = [[0u32; UNITS]; TYPES];
     let mut now = 0;
     // Tasks finished by now for certain: a later task need not look at them again.
     let mut past = 0;

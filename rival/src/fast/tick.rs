@@ -1,7 +1,8 @@
 //! Start and tick, with one look over the state.
 use super::check;
+use crate::limits::*;
 use crate::plan::*;
-use crate::state::{State, LAST_INSTANT};
+use crate::state::State;
 
 /// What one look over a sound state finds, as sets of tasks.
 #[derive(Default)]
@@ -17,12 +18,11 @@ struct Look {
 
 /// The state after the walk of instant 0, and the tasks started.
 pub fn start(plan: &Plan, constraint: &Constraint) -> (State, Result<u64, Refusal>) {
-    let mut state = State::zero();
-    if let Err(refusal) = check(plan, constraint) {
-        return (state, Err(refusal));
+    let verdict = check(plan, constraint);
+    if verdict.is_err() {
+        return (State::zero(), verdict.map(|()| 0));
     }
-    state.plan = plan.clone();
-    state.constraint = constraint.clone();
+    let mut state = State::before_the_walk(plan, constraint);
     let just_started = walk(&mut state, [0; TYPES]);
     (state, Ok(just_started))
 }
@@ -35,6 +35,7 @@ pub fn tick(mut state: State, report: u64) -> (State, Result<u64, Refusal>) {
 
 /// Starts, then ticks for each report. Gives the last state; the answers to
 /// the reports go to the three slices: refusal number, place, started tasks.
+/// If start refuses, the slices are left as they are.
 pub fn replay(
     plan: &Plan,
     constraint: &Constraint,
@@ -43,7 +44,10 @@ pub fn replay(
     places: &mut [usize],
     sets: &mut [u64],
 ) -> State {
-    let (mut state, _) = start(plan, constraint);
+    let (mut state, answer) = start(plan, constraint);
+    if answer.is_err() {
+        return state;
+    }
     let answers = numbers.iter_mut().zip(places).zip(sets);
     for (&report, ((number, place), set)) in reports.iter().zip(answers) {
         let (next, answer) = tick(state, report);

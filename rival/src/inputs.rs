@@ -1,0 +1,136 @@
+//! Random times and reports for a plan: most are legal, the others are wrong on purpose.
+use crate::check::check;
+use crate::driver::LONGEST_LIST;
+use crate::limits::*;
+use crate::plan::*;
+use crate::random::Random;
+use crate::simulate::simulate;
+use crate::state::{start, State};
+
+/// Numbers on the edges of what fits or is allowed.
+pub const EDGES: [u64; 16] = [
+    0,
+    1,
+    2,
+    TYPES as u64 - 1,
+    TYPES as u64,
+    TYPES as u64 + 1,
+    UNITS as u64,
+    UNITS as u64 + 1,
+    TASKS as u64 - 1,
+    TASKS as u64,
+    TASKS as u64 + 1,
+    LONGEST_TIME as u64,
+    LONGEST_TIME as u64 + 1,
+    u32::MAX as u64,
+    u32::MAX as u64 + 1,
+    u64::MAX,
+];
+
+/// All worst, all best, or anything between. Only for accepted plans and constraints.
+pub fn allowed_times(random: &mut Random, plan: &Plan, constraint: &Constraint) -> Vec<u32> {
+    let chosen = constraint.chosen();
+    let which = random.below(4);
+    let mut time = |t: usize| {
+        let (best, worst) = (plan.best[pair(t, chosen[t])], plan.worst[pair(t, chosen[t])]);
+        match which {
+            0 => worst,
+            1 => best,
+            _ => random.from(best.into(), worst.into()) as u32,
+        }
+    };
+    (0..plan.tasks as usize).map(&mut time).collect()
+}
+
+/// Times that are allowed, or not, or not as many as tasks.
+pub fn times(random: &mut Random, plan: &Plan, constraint: &Constraint) -> Vec<u64> {
+    let mut times: Vec<u64> = match check(plan, constraint) {
+        Ok(()) => allowed_times(random, plan, constraint).into_iter().map(u64::from).collect(),
+        Err(_) => vec![1; random.below(LONGEST_LIST as u64 + 3) as usize],
+    };
+    match random.below(8) {
+        0 => drop(times.pop()),
+        1 => times.push(1),
+        2 => times.truncate(random.below(3) as usize),
+        3 | 4 if !times.is_empty() => {
+            let at = random.below(times.len() as u64) as usize;
+            let edge = random.pick(&EDGES);
+            times[at] = random.pick(&[edge, times[at] + 1, times[at].saturating_sub(1)]);
+        }
+        _ => {}
+    }
+    times
+}
+
+/// A report that a sound state takes; 0 for others.
+pub fn legal_report(random: &mut Random, state: &State) -> u64 {
+    if !state.sound() {
+        return 0;
+    }
+    let chosen = state.constraint.chosen();
+    let mut report = 0;
+    for t in members(state.running()) {
+        let (ran, at) = (state.instant + 1 - state.starts[t], pair(t, chosen[t]));
+        let must = ran >= state.plan.worst[at];
+        let may = ran >= state.plan.best[at];
+        if must || (may && random.once_in(3)) {
+            report |= 1 << t;
+        }
+    }
+    report
+}
+
+/// A report that is legal, or has a stranger, lacks a task, comes too early, or is any set.
+pub fn some_report(random: &mut Random, state: &State) -> u64 {
+    let legal = legal_report(random, state);
+    match random.below(14) {
+        0 => legal | 1 << random.below(TASKS as u64),
+        1 => legal & random.number(),
+        2 => random.number(),
+        3 if state.sound() => legal | state.running(),
+        4 => 0,
+        _ => legal,
+    }
+}
+
+/// A list of reports: whole runs, lists with faults in between, any sets, quiet ticks, none.
+pub fn reports(random: &mut Random, plan: &Plan, constraint: &Constraint) -> Vec<u64> {
+    let (state, answer) = start(plan, constraint);
+    let most = LONGEST_LIST as u64 + 1;
+    let length = random.pick(&[1, 3, 8, 20, 20, most - 1, most]);
+    match random.below(8) {
+        0 => Vec::new(),
+        1 => vec![0; random.below(most + 1) as usize],
+        2 => (0..random.below(12)).map(|_| random.number()).collect(),
+        3 | 4 if answer.is_ok() => whole_run(random, plan, constraint),
+        _ => one_by_one(random, state, length),
+    }
+}
+
+/// The reports of a run with allowed times, often with some more after its end. What goes beyond
+/// the longest list is left out.
+fn whole_run(random: &mut Random, plan: &Plan, constraint: &Constraint) -> Vec<u64> {
+    let times = allowed_times(random, plan, constraint);
+    let Ok(run) = simulate(plan, constraint, &times) else { return Vec::new() };
+    let mut reports = vec![0; LONGEST_LIST.min(run.response as usize)];
+    for t in 0..plan.tasks as usize {
+        if let Some(report) = reports.get_mut(run.finishes[t] as usize - 1) {
+            *report |= 1 << t;
+        }
+    }
+    for _ in 0..random.below(3) {
+        reports.push(random.pick(&[0, 1, u64::MAX]));
+    }
+    reports
+}
+
+/// Each report is chosen for the state that the ticks before it leave.
+fn one_by_one(random: &mut Random, mut state: State, length: u64) -> Vec<u64> {
+    let mut reports = Vec::new();
+    for _ in 0..length {
+        let report = some_report(random, &state);
+        (state, _) = state.tick(report);
+        reports.push(report);
+    }
+    reports
+}

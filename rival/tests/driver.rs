@@ -1,0 +1,130 @@
+//! Sessions of the driver, answer by answer, on plan A of document 01.
+use rival::driver::{session, LONGEST_LIST, MOST_ROOM, TOO_LONG};
+use rival::reached::TICKS_OF_Z;
+
+const PLAN_A: &str = include_str!("../../examples/plan-a.txt");
+
+/// The answers to these commands after a text, line by line.
+fn answers(text: &str, commands: &[&str]) -> Vec<String> {
+    let input = format!("{}\n{text}{}\n", text.len(), commands.join("\n"));
+    let out = String::from_utf8(session(input.as_bytes()).out).unwrap();
+    let mut lines = out.lines().map(str::to_string);
+    assert_eq!(lines.next().as_deref(), Some("read\t0\t0"));
+    lines.collect()
+}
+
+/// A command that is answered by one line.
+fn answer(command: &str) -> String {
+    let lines = answers(PLAN_A, &[command]);
+    assert_eq!(lines.len(), 1);
+    lines[0].clone()
+}
+
+#[test]
+fn given_times() {
+    let of_worst = ["timetable\t0\t0\t44", "0\t0\t0\t2", "1\t0\t2\t5", "2\t1\t2\t6", "3\t1\t5\t8", "4\t0\t6\t8", "R\t8"];
+    assert_eq!(answers(PLAN_A, &["Y\t44\t2\t3\t4\t3\t2"]), [&of_worst[..], &[""]].concat());
+    assert_eq!(answers(PLAN_A, &["Y\t47\t2\t3\t4\t3\t2"]), [&of_worst[..], &["###"]].concat());
+    assert_eq!(answers(PLAN_A, &["Y\t47\t2\t3\t4\t3\t2"]), answers(PLAN_A, &["W\t47"]));
+    let of_best = ["timetable\t0\t0\t44", "0\t0\t0\t1", "1\t0\t1\t2", "2\t1\t1\t3", "3\t1\t2\t3", "4\t0\t3\t4", "R\t4"];
+    assert_eq!(answers(PLAN_A, &["Y\t45\t1\t1\t2\t1\t1"]), [&of_best[..], &["#"]].concat());
+}
+
+#[test]
+fn refused_times() {
+    assert_eq!(answers(PLAN_A, &["Y\t3\t2\t3\t4\t3"]), ["timetable\t17\t4\t0", "###"]);
+    assert_eq!(answers(PLAN_A, &["Y\t0"]), ["timetable\t17\t0\t0", ""]);
+    assert_eq!(answers(PLAN_A, &["Y\t1\t2\t3\t5\t3\t0"]), ["timetable\t18\t2\t0", "#"]);
+    assert_eq!(answers(PLAN_A, &["Y\t0\t2\t3\t4\t3\t2"]), ["timetable\t19\t44\t0", ""]);
+    let short = answers(PLAN_A, &["Y\t43\t2\t3\t4\t3\t2"]);
+    assert_eq!(short, ["timetable\t19\t44\t0".to_string(), "#".repeat(43)]);
+    assert_eq!(answers("", &["Y\t2\t1"]), ["timetable\t8\t0\t0", "##"]);
+    assert_eq!(answers(PLAN_A, &["P\t6\t0\t4", "Y\t1"]), ["put", "timetable\t9\t4\t0", "#"]);
+    assert_eq!(answers(PLAN_A, &["P\t8\t1\t1", "Y\t1"]), ["put", "timetable\t10\t1\t0", "#"]);
+    let later = ["P\t7\t0\t2", "P\t8\t0\t1", "P\t7\t2\t0", "P\t8\t2\t0", "Y\t1"];
+    assert_eq!(answers(PLAN_A, &later)[4..], ["timetable\t11\t0\t0", "#"]);
+}
+
+#[test]
+fn lists_of_reports() {
+    assert_eq!(answer("Z"), "replay\t0\t0\t1");
+    assert_eq!(answer("Z\t1"), "replay\t0\t0\t1\t0\t0\t6");
+    assert_eq!(answer("Z\t0\t0"), "replay\t0\t0\t1\t0\t0\t0\t16\t0\t0");
+    assert_eq!(answer("Z\t1\t4"), "replay\t0\t0\t1\t0\t0\t6\t15\t2\t0");
+    assert_eq!(answer("Z\t1\t8"), "replay\t0\t0\t1\t0\t0\t6\t14\t3\t0");
+}
+
+/// The run of best times: tasks 0 at 1, 1 at 2, 2 and 3 at 3, 4 at 4. Refused reports alter nothing.
+#[test]
+fn a_whole_run() {
+    let run = "replay\t0\t0\t1\t0\t0\t6\t0\t0\t8\t0\t0\t16\t0\t0\t0";
+    assert_eq!(answer("Z\t1\t2\t12\t16"), run);
+    assert_eq!(answer("Z\t1\t2\t12\t16\t0"), format!("{run}\t13\t0\t0"));
+    let faults = "replay\t0\t0\t1\t14\t5\t0\t0\t0\t6\t15\t2\t0\t0\t0\t8\t0\t0\t16\t0\t0\t0";
+    assert_eq!(answer("Z\t32\t1\t4\t2\t12\t16"), faults);
+}
+
+#[test]
+fn refused_lists() {
+    assert_eq!(answers("", &["Z\t1\t2"]), ["replay\t8\t0\t0"]);
+    assert_eq!(answers(PLAN_A, &["P\t6\t0\t4", "Z", "Z\t1"]), ["put", "replay\t9\t4\t0", "replay\t9\t4\t0"]);
+    assert_eq!(answers(PLAN_A, &["P\t8\t1\t1", "Z\t1"]), ["put", "replay\t10\t1\t0"]);
+    let later = ["P\t7\t0\t2", "P\t8\t0\t1", "P\t7\t2\t0", "P\t8\t2\t0", "Z\t1"];
+    assert_eq!(answers(PLAN_A, &later)[4..], ["replay\t11\t0\t0"]);
+}
+
+/// A replay begins anew and leaves the kept state alone.
+#[test]
+fn the_kept_state_stays() {
+    let state = &answers(PLAN_A, &["S", "T\t1", "Q"])[2];
+    let lines = answers(PLAN_A, &["S", "T\t1", "Z\t1\t2", "Q", "Z\t0\t0", "Q"]);
+    assert_eq!((&lines[3], &lines[5]), (state, state));
+    assert_eq!(lines[2], "replay\t0\t0\t1\t0\t0\t6\t0\t0\t8");
+}
+
+#[test]
+fn as_many_as_may_be() {
+    let ones = |count: usize| "\t1".repeat(count);
+    let most = LONGEST_LIST;
+    assert!(answer(&format!("Z{}", ones(most))).starts_with("replay\t0\t0\t1\t0\t0\t6\t14\t0\t0\t14"));
+    assert_eq!(answer(&format!("Z{}", ones(most + 1))), "bad");
+    let full = answers(PLAN_A, &[&format!("Y\t1{}", ones(most))]);
+    assert_eq!(full, [format!("timetable\t17\t{most}\t0"), "#".to_string()]);
+    assert_eq!(answer(&format!("Y\t1{}", ones(most + 1))), "bad");
+    let room = answers(PLAN_A, &[&format!("Y\t{MOST_ROOM}")]);
+    assert_eq!(room, ["timetable\t17\t0\t0".to_string(), "#".repeat(MOST_ROOM as usize)]);
+    assert_eq!(answer(&format!("Y\t{}", MOST_ROOM + 1)), "bad");
+}
+
+#[test]
+fn bad_lines() {
+    for line in ["Y", "Y\t", "Y\t1\t", "Y\t1\t4294967296", "Z\t", "Z\t1\t", "Z\tx", "Z\t18446744073709551616", "y\t1", "z"] {
+        assert_eq!(answer(line), "bad");
+    }
+}
+
+/// Zeros before a number are taken; a line of too many bytes is not, even as the last without newline.
+#[test]
+fn long_lines() {
+    let line = |bytes: usize| {
+        let many = format!("Z{}", format!("\t{:020}", 0).repeat(48));
+        format!("{many}\t{:0digits$}", 1, digits = bytes - many.len() - 1)
+    };
+    let taken = line(TOO_LONG - 1);
+    assert_eq!(taken.len(), TOO_LONG - 1);
+    assert!(answer(&taken).starts_with("replay\t0\t0\t1\t0\t0\t0\t16\t0\t0"));
+    assert_eq!(answers(PLAN_A, &[&line(TOO_LONG), "K"]), ["bad", "check\t0\t0"]);
+    let input = format!("0\n{}", line(TOO_LONG));
+    assert_eq!(session(input.as_bytes()).out, b"read\t0\t0\nbad\n");
+}
+
+#[test]
+fn what_was_reached() {
+    let input = format!("{}\n{PLAN_A}Y\t44\t2\t3\t4\t3\t2\nY\t1\nZ\t1\t4\nZ\t0\t0\n", PLAN_A.len());
+    let reached = session(input.as_bytes()).reached;
+    assert_eq!((reached.times("Y", 0), reached.times("Y", 17), reached.times("Z", 0)), (1, 1, 2));
+    let ticks = [0, 13, 14, 15, 16].map(|number| reached.times(TICKS_OF_Z, number));
+    assert_eq!(ticks, [2, 0, 0, 1, 1]);
+    assert_eq!((reached.total(0), reached.times("W", 0)), (6, 0));
+    assert!(reached.missing().contains(&"13 by Z's ticks".to_string()));
+}
