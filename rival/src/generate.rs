@@ -53,7 +53,7 @@ impl Session {
             self.give("S");
         }
         // Every third session is mostly timetables of given times and replays.
-        let kinds = if self.random.once_in(3) { 28 } else { 16 };
+        let kinds = if self.random.once_in(3) { 29 } else { 17 };
         for _ in 0..if accepted { self.random.from(6, 30) } else { 4 } {
             match self.random.below(kinds) {
                 0 => self.give("B"),
@@ -67,7 +67,8 @@ impl Session {
                 9 => self.late_instants(),
                 10 => self.give("S"),
                 11..=13 => self.ticks(),
-                14..=20 if kinds > 16 || self.random.once_in(2) => self.timetable(),
+                14 => self.alter_order(),
+                15..=21 if kinds > 17 || self.random.once_in(2) => self.timetable(),
                 _ => self.replay(),
             }
         }
@@ -172,17 +173,49 @@ impl Session {
 
     fn alter_plan(&mut self) {
         let back = self.put('P', &[0, 1, 2, 3, 4, 5, 5, 6, 7, 7, 8, 8, 9]);
-        match self.random.below(9) {
-            0 | 1 => self.timetable(),
-            2 | 3 => self.replay(),
-            4 => self.give(&format!("W\t{LONGEST_TIMETABLE}")),
-            _ => {
-                let then = self.random.pick(&["K", "S", "B", "M\t1"]);
-                self.give(then);
-            }
-        }
+        self.ask();
         if let Some(back) = back.filter(|_| !self.random.once_in(12)) {
             self.give(&back);
+        }
+    }
+
+    /// A fault in an accepted order, for a while: a task that stands before too (9), a type that
+    /// the task cannot use (10), a predecessor later in the order (11).
+    fn alter_order(&mut self) {
+        let Driver { plan, constraint, .. } = &self.driver;
+        if crate::check::check(plan, constraint).is_err() || plan.tasks < 2 {
+            return;
+        }
+        let first = self.random.below(plan.tasks - 1);
+        let second = self.random.from(first + 1, plan.tasks - 1);
+        let (p, q) = (first as usize, second as usize);
+        let (task, later) = (constraint.task[p], constraint.task[q]);
+        let unusable = (0..TYPES).find(|&y| plan.best[pair(task as usize, y)] == 0);
+        let (part, index, old, value) = match self.random.below(3) {
+            0 => (7, second, later, task),
+            1 => (8, first, constraint.kind[p], unusable.unwrap_or(TYPES) as u64),
+            _ => {
+                let old = plan.predecessors[task as usize];
+                (5, task, old, old | 1 << later)
+            }
+        };
+        self.give(&format!("P\t{part}\t{index}\t{value}"));
+        for _ in 0..self.random.from(1, 3) {
+            self.ask();
+        }
+        self.give(&format!("P\t{part}\t{index}\t{old}"));
+    }
+
+    /// One of the commands that begin with the check.
+    fn ask(&mut self) {
+        match self.random.below(9) {
+            0 => self.give("K"),
+            1 => self.give("S"),
+            2 => self.give("B"),
+            3 => self.simulate(),
+            4 => self.worst_timetable(),
+            5 | 6 => self.timetable(),
+            _ => self.replay(),
         }
     }
 
