@@ -1,5 +1,6 @@
 //! The proved code behind safe functions.
-use rival::plan::{Constraint, Plan, PAIRS, TASKS, TYPES};
+use rival::limits::{PAIRS, TASKS, TYPES};
+use rival::plan::{Constraint, Plan};
 use rival::run::Times;
 
 #[link(name = "speed", kind = "static")]

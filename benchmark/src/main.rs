@@ -1,4 +1,5 @@
-//! The proved code against the rival's fast forms, measured on the same inputs.
+//! The proved code against the rival's fast forms, measured on the same inputs; with
+//! `--answers` nothing is measured.
 //!
 //! Before a measurement both must give the same answers on its input. No call
 //! can be left out: inputs and answers go through `black_box`, nothing is
@@ -12,17 +13,32 @@ mod plans;
 use calls::{Answers, Input};
 use plans::Shape;
 use rival::fast;
-use rival::plan::{TASKS, TYPES};
+use rival::limits::{LONGEST_TEXT, LONGEST_TIME, TASKS, TYPES};
 use rival::simulate::worst_times;
 use std::hint::black_box;
 
 /// Prints the lines and keeps those that miss their target.
 struct Table {
+    timed: bool,
     missed: Vec<String>,
 }
 
 impl Table {
-    fn line(&mut self, name: &str, (ours, rivals): (f64, f64), target: f64) {
+    fn head(&self, columns: [&str; 5]) {
+        let [what, ours, rivals, ratio, target] = columns;
+        if self.timed {
+            let line = format!("{what:<44}{ours:>12}{rivals:>12}{ratio:>8}{target:>8}");
+            println!("{}", line.trim_end());
+        }
+    }
+
+    /// The answers are the same; what they took is measured, if anything is.
+    fn line(&mut self, name: &str, measure: impl FnOnce() -> (f64, f64), target: f64) {
+        if !self.timed {
+            println!("the same answers: {name}");
+            return;
+        }
+        let (ours, rivals) = measure();
         let ratio = ours / rivals;
         println!("{name:<44}{ours:>12.1}{rivals:>12.1}{ratio:>8.2}{target:>8.1}");
         if ratio > target {
@@ -39,7 +55,7 @@ fn read(table: &mut Table, name: &str, shape: &Shape) {
     }
     let ours = || calls::read(black_box(&text), black_box(0), black_box(0));
     let rivals = || fast::read(black_box(&text));
-    table.line(name, measure::by_turns(ours, rivals), 2.0);
+    table.line(name, || measure::by_turns(ours, rivals), 2.0);
 }
 
 fn check(table: &mut Table, name: &str, shape: &Shape) {
@@ -49,7 +65,7 @@ fn check(table: &mut Table, name: &str, shape: &Shape) {
     assert_eq!(fast::check(&plan, &constraint), Ok(()));
     let ours = || calls::check(black_box(&input));
     let rivals = || fast::check(black_box(&plan), black_box(&constraint));
-    table.line(name, measure::by_turns(ours, rivals), 2.0);
+    table.line(name, || measure::by_turns(ours, rivals), 2.0);
 }
 
 fn simulate(table: &mut Table, name: &str, shape: &Shape) {
@@ -63,7 +79,7 @@ fn simulate(table: &mut Table, name: &str, shape: &Shape) {
         let (plan, constraint) = (black_box(&plan), black_box(&constraint));
         fast::simulate(plan, constraint, black_box(&times))
     };
-    table.line(name, measure::by_turns(ours, rivals), 2.0);
+    table.line(name, || measure::by_turns(ours, rivals), 2.0);
 }
 
 /// The answers are lent again and again and are not cleared in between: every
@@ -87,9 +103,11 @@ fn replay(table: &mut Table, name: &str, shape: &Shape) {
     assert_eq!(ours(&mut a), state.instant);
     assert!(a == b, "{name}: the answers differ");
     assert!(a.numbers.iter().all(|&number| number == 0), "{name}: a report is refused");
-    let (ours, rivals) = measure::by_turns(|| ours(&mut a), || rivals(&mut b));
-    let name = format!("{name}, one of {ticks} ticks");
-    table.line(&name, (ours / ticks as f64, rivals / ticks as f64), 2.0);
+    let one_tick = || {
+        let (ours, rivals) = measure::by_turns(|| ours(&mut a), || rivals(&mut b));
+        (ours / ticks as f64, rivals / ticks as f64)
+    };
+    table.line(&format!("{name}, one of {ticks} ticks"), one_tick, 2.0);
 }
 
 /// Ours against ours: long times must cost no more than short ones.
@@ -97,17 +115,23 @@ fn long_times(table: &mut Table, name: &str, shape: &Shape) {
     let (plan, constraint) = shape.plan();
     let input = Input::new(&plan, &constraint);
     let run = |times: &[u32; TASKS]| calls::simulate(black_box(&input), black_box(times));
-    let (short, long) = ([1; TASKS], [65_535; TASKS]);
+    let (short, long) = ([1; TASKS], [LONGEST_TIME; TASKS]);
     assert!(run(&short).response > 0);
-    assert_eq!(run(&short).response * 65_535, run(&long).response);
-    table.line(name, measure::by_turns(|| run(&long), || run(&short)), 1.2);
+    assert_eq!(run(&short).response * LONGEST_TIME, run(&long).response);
+    table.line(name, || measure::by_turns(|| run(&long), || run(&short)), 1.2);
 }
 
 fn main() {
-    let mut table = Table { missed: Vec::new() };
+    let words: Vec<String> = std::env::args().skip(1).collect();
+    let timed = words.is_empty();
+    if !timed && words != ["--answers"] {
+        eprintln!("usage: benchmark [--answers]");
+        std::process::exit(2);
+    }
+    let mut table = Table { timed, missed: Vec::new() };
     let t = &mut table;
-    assert!(plans::LARGEST.text().len() <= 32_768);
-    println!("{:<44}{:>12}{:>12}{:>8}{:>8}", "nanoseconds", "ours", "rival", "ratio", "target");
+    assert!(plans::LARGEST.text().len() <= LONGEST_TEXT);
+    t.head(["nanoseconds", "ours", "rival", "ratio", "target"]);
     read(t, "read the largest text", &plans::LARGEST);
     read(t, "read a text of 16 tasks", &plans::MIDDLE);
     check(t, "check the largest plan", &plans::LARGEST);
@@ -117,7 +141,7 @@ fn main() {
     replay(t, "replay a chain", &plans::CHAIN);
     replay(t, "replay all at once", &plans::WIDE);
     replay(t, "replay a mixture", &plans::MIXED);
-    println!("{:<44}{:>12}{:>12}", "simulation, ours against ours", "of 65,535", "of 1");
+    t.head(["simulation, ours against ours", &format!("of {LONGEST_TIME}"), "of 1", "", ""]);
     long_times(t, "times, the largest plan", &plans::ANY_TIMES);
     long_times(t, "times, few arrows", &plans::ANY_TIMES_FEW_ARROWS);
     for missed in &table.missed {

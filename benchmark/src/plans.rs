@@ -1,5 +1,6 @@
 //! The inputs: texts, plans and lists of reports.
-use rival::plan::{Constraint, Plan, TASKS};
+use rival::limits::{LONGEST_TIME, TASKS, TYPES, UNITS};
+use rival::plan::{Constraint, Plan};
 use rival::simulate::simulate;
 use std::fmt::Write;
 
@@ -45,17 +46,18 @@ impl Shape {
     }
 }
 
-fn five_digits(t: usize, y: usize) -> (u32, u32) {
-    ((10_000 + 97 * t + y) as u32, (65_535 - 31 * t - y) as u32)
+/// Best and worst with many digits.
+fn long_times(t: usize, y: usize) -> (u32, u32) {
+    (LONGEST_TIME / 6 + (97 * t + y) as u32, LONGEST_TIME - (31 * t + y) as u32)
 }
 
 /// Every pair, every arrow: the longest sound text.
 pub const LARGEST: Shape = Shape {
-    types: 8,
-    units: 8,
+    types: TYPES,
+    units: UNITS,
     tasks: TASKS,
     usable: |_, _| true,
-    times: five_digits,
+    times: long_times,
     arrow: |_, _| true,
 };
 
@@ -69,17 +71,17 @@ pub const MIDDLE: Shape = Shape {
 };
 
 pub const FEW_ARROWS: Shape = Shape {
-    types: 8,
+    types: TYPES,
     units: 2,
     tasks: TASKS,
     usable: |t, y| (t + y) % 3 == 0,
-    times: five_digits,
+    times: long_times,
     arrow: |from, to| from + 9 == to,
 };
 
-/// As large as the largest, for times of 1 and of 65,535.
-pub const ANY_TIMES: Shape = Shape { times: |_, _| (1, 65_535), ..LARGEST };
-pub const ANY_TIMES_FEW_ARROWS: Shape = Shape { times: |_, _| (1, 65_535), ..FEW_ARROWS };
+/// As large as the largest, for times from 1 to the longest.
+pub const ANY_TIMES: Shape = Shape { times: |_, _| (1, LONGEST_TIME), ..LARGEST };
+pub const ANY_TIMES_FEW_ARROWS: Shape = Shape { times: |_, _| (1, LONGEST_TIME), ..FEW_ARROWS };
 
 /// One after the other on a single unit.
 pub const CHAIN: Shape = Shape {
@@ -91,8 +93,8 @@ pub const CHAIN: Shape = Shape {
     arrow: |from, to| from + 1 == to,
 };
 
-/// All at once on 64 units.
-pub const WIDE: Shape = Shape { types: 8, units: 8, arrow: |_, _| false, ..CHAIN };
+/// All at once, with a unit for each.
+pub const WIDE: Shape = Shape { types: TYPES, units: UNITS, arrow: |_, _| false, ..CHAIN };
 
 /// Waits for units and for predecessors.
 pub const MIXED: Shape = Shape { types: 4, units: 2, arrow: |from, to| from + 5 == to, ..CHAIN };
@@ -101,9 +103,5 @@ pub const MIXED: Shape = Shape { types: 4, units: 2, arrow: |from, to| from + 5 
 pub fn reports(plan: &Plan, constraint: &Constraint) -> Vec<u64> {
     let times: Vec<u32> = (0..plan.tasks as u32).map(|t| t * 7 % 20 + 1).collect();
     let run = simulate(plan, constraint, &times).expect("legal times");
-    let mut reports = vec![0; run.response as usize];
-    for t in 0..plan.tasks as usize {
-        reports[run.finishes[t] as usize - 1] |= 1 << t;
-    }
-    reports
+    run.reports(plan, run.response as usize)
 }

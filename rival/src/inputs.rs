@@ -112,12 +112,7 @@ pub fn reports(random: &mut Random, plan: &Plan, constraint: &Constraint) -> Vec
 fn whole_run(random: &mut Random, plan: &Plan, constraint: &Constraint) -> Vec<u64> {
     let times = allowed_times(random, plan, constraint);
     let Ok(run) = simulate(plan, constraint, &times) else { return Vec::new() };
-    let mut reports = vec![0; LONGEST_LIST.min(run.response as usize)];
-    for t in 0..plan.tasks as usize {
-        if let Some(report) = reports.get_mut(run.finishes[t] as usize - 1) {
-            *report |= 1 << t;
-        }
-    }
+    let mut reports = run.reports(plan, LONGEST_LIST);
     for _ in 0..random.below(3) {
         reports.push(random.pick(&[0, 1, u64::MAX]));
     }

@@ -14,6 +14,17 @@ impl Times {
     pub fn zero() -> Times {
         Times { starts: [0; TASKS], finishes: [0; TASKS], response: 0 }
     }
+
+    /// The tasks that finish at instants 1, 2, and so on, up to the end or to this many.
+    pub fn reports(&self, plan: &Plan, most: usize) -> Vec<u64> {
+        let mut reports = vec![0; most.min(self.response as usize)];
+        for t in 0..plan.tasks as usize {
+            if let Some(report) = reports.get_mut(self.finishes[t] as usize - 1) {
+                *report |= 1 << t;
+            }
+        }
+        reports
+    }
 }
 
 /// The tasks that the walk starts, given how many of the order have started

@@ -3,7 +3,8 @@ use crate::limits::*;
 use crate::plan::*;
 
 pub fn check(plan: &Plan, constraint: &Constraint) -> Result<(), Refusal> {
-    if !keeps_the_rules(plan) {
+    let sized = plan.counts_are_right() && units_are_right(plan);
+    if !sized || !pairs_are_right(plan) || !predecessors_are_right(plan) {
         return refuse(8, 0);
     }
     if constraint.length != plan.tasks {
@@ -33,14 +34,6 @@ fn check_order(plan: &Plan, constraint: &Constraint) -> Result<(), Refusal> {
         return refuse(11, waiting.trailing_zeros().into());
     }
     Ok(())
-}
-
-/// The rules of "The plan".
-fn keeps_the_rules(plan: &Plan) -> bool {
-    plan.counts_are_right()
-        && units_are_right(plan)
-        && pairs_are_right(plan)
-        && predecessors_are_right(plan)
 }
 
 fn units_are_right(plan: &Plan) -> bool {
