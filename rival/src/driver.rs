@@ -171,13 +171,7 @@ impl Driver {
     }
 
     /// A line with number and place, then the other fields.
-    fn say(
-        &mut self,
-        command: &'static str,
-        name: &str,
-        refusal: Option<&Refusal>,
-        rest: &[u64],
-    ) {
+    fn say(&mut self, command: &'static str, name: &str, refusal: Option<&Refusal>, rest: &[u64]) {
         let [number, place] = number_and_place(refusal);
         self.reached.note(command, number);
         self.line(name, &[&[number, place], rest].concat());

@@ -52,7 +52,7 @@ impl Session {
         if self.random.once_in(2) || accepted {
             self.give("S");
         }
-        // Every third session is mostly timetables of given times and replays.
+        // In every third session about half of the commands are timetables of given times and replays.
         let kinds = if self.random.once_in(3) { 29 } else { 17 };
         for _ in 0..if accepted { self.random.from(6, 30) } else { 4 } {
             match self.random.below(kinds) {
@@ -68,7 +68,7 @@ impl Session {
                 10 => self.give("S"),
                 11..=13 => self.ticks(),
                 14 => self.alter_order(),
-                15..=21 if kinds > 17 || self.random.once_in(2) => self.timetable(),
+                15 | 17..=22 => self.timetable(),
                 _ => self.replay(),
             }
         }
