@@ -6,6 +6,7 @@ use live::State;
 use plan::Constraint;
 use plan::MOST_TASKS;
 use plan::Plan;
+use timetable::Written;
 
 const MOST_WRITTEN: usize = 2000;
 
@@ -71,14 +72,23 @@ pub fn line(k: Kept, s: &[u8]) -> Kept {
         bad();
         return k;
     }
-    let count = f.count;
-    if letter == b'M' {
-        simulate(k, &values, count);
-        return k;
+    by_letter(k, letter, &values, f.count)
+}
+
+fn by_letter(k: Kept, letter: u8, values: &[u64; fields::MOST], count: usize) -> Kept {
+    match letter {
+        b'M' => simulate(k, values, count),
+        b'Y' => timetable(k, false, values, count),
+        b'Z' => replay(k, values, count),
+        _ => counted(k, letter, values, count),
     }
+}
+
+// The commands with a count of fields of their own.
+fn counted(k: Kept, letter: u8, values: &[u64; fields::MOST], count: usize) -> Kept {
     match count {
         0 => bare(k, letter),
-        1 => with_one(k, letter, values[0]),
+        1 => with_one(k, letter, values),
         3 => with_three(k, letter, values[0], values[1], values[2]),
         _ => neither(k),
     }
@@ -100,10 +110,10 @@ fn bare(k: Kept, letter: u8) -> Kept {
     }
 }
 
-fn with_one(k: Kept, letter: u8, value: u64) -> Kept {
+fn with_one(k: Kept, letter: u8, values: &[u64; fields::MOST]) -> Kept {
     match letter {
-        b'T' => tick(k, value),
-        b'W' => timetable(k, value),
+        b'T' => tick(k, values[0]),
+        b'W' => timetable(k, true, values, 1),
         _ => neither(k),
     }
 }
@@ -132,25 +142,27 @@ fn bound(k: Kept) -> Kept {
     k
 }
 
-fn simulate(k: Kept, values: &[u64; fields::MOST], count: usize) {
+fn simulate(k: Kept, values: &[u64; fields::MOST], count: usize) -> Kept {
     let mut times = [0u32; fields::MOST];
     if !fields::narrowed(values, &mut times, count) {
-        bad();
-        return;
+        return neither(k);
     }
     simulate_first(k, &times, count);
+    k
 }
 
-// The first n times, or all of them where there are fewer.
-fn front(times: &[u32], n: usize) -> &[u32] {
-    if n <= times.len() {
-        return &times[..n];
+// The times from a up to e, or all of them where that is no part.
+fn between(times: &[u32], a: usize, e: usize) -> &[u32] {
+    if e <= times.len() {
+        if a <= e {
+            return &times[a..e];
+        }
     }
     times
 }
 
 fn simulate_first(k: Kept, times: &[u32; fields::MOST], count: usize) {
-    let first = front(times, count);
+    let first = between(times, 0, count);
     let s = simulation::simulate(k.plan, k.constraint, first);
     let starts = s.starts;
     let finishes = s.finishes;
@@ -198,26 +210,91 @@ fn state(k: Kept) -> Kept {
     k
 }
 
-fn timetable(k: Kept, n: u64) -> Kept {
-    let length = n as usize;
-    if MOST_WRITTEN < length {
+// The fields are the buffer's length and the times; worst ones need none.
+fn timetable(k: Kept, worst: bool, values: &[u64; fields::MOST], count: usize) -> Kept {
+    let length = values[0] as usize;
+    let mut times = [0u32; fields::MOST];
+    let fit = fields::narrowed(values, &mut times, count);
+    if !fit | ((count == 0) | (MOST_WRITTEN < length)) {
         return neither(k);
     }
-    let mut buffer = [b'#'; MOST_WRITTEN];
-    timetable_in(k, &mut buffer, length);
+    timetable_for(k, worst, &times, count, length);
     k
 }
 
-fn timetable_in(k: Kept, buffer: &mut [u8], n: usize) {
+// The times are those after the first.
+fn timetable_for(k: Kept, worst: bool, times: &[u32; fields::MOST], count: usize, length: usize) {
+    let mut buffer = [b'#'; MOST_WRITTEN];
+    timetable_in(k, worst, between(times, 1, count), &mut buffer, length);
+}
+
+fn timetable_in(k: Kept, worst: bool, times: &[u32], buffer: &mut [u8], n: usize) {
     if n <= buffer.len() {
-        timetable_of(k, &mut buffer[..n]);
+        timetable_of(k, worst, times, &mut buffer[..n]);
     }
 }
 
-fn timetable_of(k: Kept, buffer: &mut [u8]) {
-    let w = timetable::worst_timetable(k.plan, k.constraint, buffer);
+fn timetable_of(k: Kept, worst: bool, times: &[u32], buffer: &mut [u8]) {
+    let w = written(k, worst, times, buffer);
     output::write_valued(b"timetable", w.number, w.place, w.written as u64);
     output::write_text(buffer);
+}
+
+fn written(k: Kept, worst: bool, times: &[u32], buffer: &mut [u8]) -> Written {
+    if worst {
+        return timetable::worst_timetable(k.plan, k.constraint, buffer);
+    }
+    timetable::timetable(k.plan, k.constraint, times, buffer)
+}
+
+// The ticks of a list follow the start, if it is accepted.
+fn replay(k: Kept, reports: &[u64], count: usize) -> Kept {
+    if fields::MOST <= count {
+        return neither(k);
+    }
+    if reports.len() < count {
+        return neither(k);
+    }
+    let mut numbers = [0u32; fields::MOST];
+    let mut places = [0usize; fields::MOST];
+    let mut sets = [0u64; fields::MOST];
+    let r = live::replay(
+        k.plan,
+        k.constraint,
+        &reports[..count],
+        &mut numbers[..count],
+        &mut places[..count],
+        &mut sets[..count],
+    );
+    let mut out = [0u8; output::WIDTH];
+    let a = output::put_verdict(&mut out, b"replay", r.number, r.place);
+    let mut e = output::put_number(&mut out, a, r.started);
+    if r.number == 0 {
+        e = put_ticks(&mut out, e, count, &numbers, &places, &sets);
+    }
+    output::write_line(&mut out, e);
+    k
+}
+
+fn put_ticks(
+    out: &mut [u8; output::WIDTH],
+    at: usize,
+    count: usize,
+    numbers: &[u32; fields::MOST],
+    places: &[usize; fields::MOST],
+    sets: &[u64; fields::MOST],
+) -> usize {
+    let mut end = at;
+    let mut i = 0;
+    while i < count {
+        if fields::MOST <= i {
+            return end;
+        }
+        end = output::put_refusal(out, end, numbers[i], places[i]);
+        end = output::put_number(out, end, sets[i]);
+        i += 1;
+    }
+    end
 }
 
 fn put_kept(k: Kept, part: u64, i: usize, value: u64) -> Kept {

@@ -10,6 +10,9 @@
 //   T report         tick number place started
 //   Q                state instant started finished, then the start and finish of tasks 0 to 63
 //   W length         timetable number place written, and a line with the lent buffer, filled with # before; at most 2,000
+//   Y length times   the same for these times in place of worst ones; 0 to 79 times
+//   Z reports        replay number place started, then, if the start is accepted, number, place and started of each tick;
+//                    0 to 79 reports; the run state stays
 //   P part i value   put: a value into the kept plan or constraint
 //   R part i value   put: a value into the run state, or into its own plan or constraint
 //

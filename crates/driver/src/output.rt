@@ -2,8 +2,8 @@
 use libc::STDOUT_FILENO;
 use plan::MOST_TASKS;
 
-// More than the longest line: a name and 131 numbers.
-pub const WIDTH: usize = 2048;
+// More than the longest line: a name and 240 numbers, of which a third may have 20 digits.
+pub const WIDTH: usize = 4096;
 
 // What stands past the end of the buffer is left out.
 fn put_byte(out: &mut [u8; WIDTH], at: usize, b: u8) -> usize {
@@ -70,11 +70,16 @@ pub fn write_text(text: &[u8]) {
     io::write_all(STDOUT_FILENO, b"\n");
 }
 
+// A number and a place.
+pub fn put_refusal(out: &mut [u8; WIDTH], at: usize, number: u32, place: usize) -> usize {
+    let end = put_number(out, at, wide(number));
+    put_number(out, end, place as u64)
+}
+
 // A name, a number and a place.
 pub fn put_verdict(out: &mut [u8; WIDTH], name: &[u8], number: u32, place: usize) -> usize {
     let named = put_text(out, 0, name);
-    let numbered = put_number(out, named, wide(number));
-    put_number(out, numbered, place as u64)
+    put_refusal(out, named, number, place)
 }
 
 pub fn write_verdict(name: &[u8], number: u32, place: usize) {
