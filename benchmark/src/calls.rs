@@ -3,52 +3,115 @@ use rival::limits::{PAIRS, TASKS, TYPES};
 use rival::plan::{Constraint, Plan};
 use rival::run::Times;
 
-#[link(name = "speed", kind = "static")]
-extern "C" {
-    fn speed_check(
-        types: usize, units: *const u32, tasks: usize, bcet: *const u32, wcet: *const u32,
-        predecessors: *const u64, len: usize, order: *const usize, chosen: *const usize,
-    ) -> u32;
-    fn speed_read(text: *const u8, text_len: usize, task: usize, kind: usize) -> u32;
-    fn speed_simulate(
-        types: usize, units: *const u32, tasks: usize, bcet: *const u32, wcet: *const u32,
-        predecessors: *const u64, len: usize, order: *const usize, chosen: *const usize,
-        times: *const u32, times_len: usize, starts: *mut u32, finishes: *mut u32,
-    ) -> u32;
-    fn speed_replay(
-        types: usize, units: *const u32, tasks: usize, bcet: *const u32, wcet: *const u32,
-        predecessors: *const u64, len: usize, order: *const usize, chosen: *const usize,
-        reports: *const u64, reports_len: usize, numbers: *mut u32, numbers_len: usize,
-        places: *mut usize, places_len: usize, sets: *mut u64, sets_len: usize,
-    ) -> u32;
-}
-
-/// A plan and constraint in the form that the archive takes.
-pub struct Input {
+/// A plan and a constraint as the archive has them.
+#[repr(C)]
+#[derive(Clone, Copy)]
+pub struct ArchivePlan {
     types: usize,
     units: [u32; TYPES],
     tasks: usize,
-    best: [u32; PAIRS],
+    pub best: [u32; PAIRS],
     worst: [u32; PAIRS],
     predecessors: [u64; TASKS],
+}
+
+#[repr(C)]
+#[derive(Clone, Copy)]
+pub struct ArchiveConstraint {
     length: usize,
     order: [usize; TASKS],
     chosen: [usize; TASKS],
 }
 
+#[repr(C)]
+pub struct Read {
+    pub number: u32,
+    place: usize,
+    pub plan: ArchivePlan,
+    pub constraint: ArchiveConstraint,
+}
+
+#[repr(C)]
+pub struct Verdict {
+    pub number: u32,
+    place: usize,
+}
+
+#[repr(C)]
+struct Simulation {
+    number: u32,
+    place: usize,
+    response: u32,
+    starts: [u32; TASKS],
+    finishes: [u32; TASKS],
+}
+
+#[repr(C)]
+struct State {
+    plan: ArchivePlan,
+    constraint: ArchiveConstraint,
+    instant: u32,
+    started: usize,
+    finished: u64,
+    starts: [u32; TASKS],
+    finishes: [u32; TASKS],
+}
+
+#[repr(C)]
+pub struct Replayed {
+    number: u32,
+    place: usize,
+    started: u64,
+    state: State,
+}
+
+#[link(name = "speed", kind = "static")]
+extern "C" {
+    fn speed_read(text: *const u8, text_len: usize) -> Read;
+    fn speed_check(plan: ArchivePlan, constraint: ArchiveConstraint) -> Verdict;
+    fn speed_simulate(
+        plan: ArchivePlan, constraint: ArchiveConstraint, times: *const u32, times_len: usize,
+    ) -> Simulation;
+    fn speed_replay(
+        plan: ArchivePlan, constraint: ArchiveConstraint, reports: *const u64, reports_len: usize,
+        numbers: *mut u32, numbers_len: usize, places: *mut usize, places_len: usize,
+        sets: *mut u64, sets_len: usize,
+    ) -> Replayed;
+}
+
+/// A plan and constraint in the form that the archive takes.
+pub struct Input {
+    plan: ArchivePlan,
+    constraint: ArchiveConstraint,
+}
+
 impl Input {
     pub fn new(plan: &Plan, constraint: &Constraint) -> Input {
         Input {
-            types: plan.types as usize,
-            units: plan.units,
-            tasks: plan.tasks as usize,
-            best: plan.best,
-            worst: plan.worst,
-            predecessors: plan.predecessors,
-            length: constraint.length as usize,
-            order: constraint.task.map(|t| t as usize),
-            chosen: constraint.kind.map(|k| k as usize),
+            plan: ArchivePlan {
+                types: plan.types as usize,
+                units: plan.units,
+                tasks: plan.tasks as usize,
+                best: plan.best,
+                worst: plan.worst,
+                predecessors: plan.predecessors,
+            },
+            constraint: ArchiveConstraint {
+                length: constraint.length as usize,
+                order: constraint.task.map(|t| t as usize),
+                chosen: constraint.kind.map(|k| k as usize),
+            },
         }
+    }
+
+    /// Whether the plan and the constraint that were read are these.
+    pub fn is(&self, read: &Read) -> bool {
+        let (p, q) = (&self.plan, &read.plan);
+        let (c, d) = (&self.constraint, &read.constraint);
+        read.number == 0
+            && (p.types, p.tasks, p.units) == (q.types, q.tasks, q.units)
+            && (p.best, p.worst, p.predecessors) == (q.best, q.worst, q.predecessors)
+            && (c.length, c.order, c.chosen) == (d.length, d.order, d.chosen)
     }
 }
 
@@ -71,33 +134,20 @@ impl Answers {
 // In each call below the arrays have the lengths that the archive asks for,
 // and every slice goes with its own length.
 
-/// The number of the refusal, or 0.
-pub fn check(i: &Input) -> u32 {
-    unsafe {
-        speed_check(
-            i.types, i.units.as_ptr(), i.tasks, i.best.as_ptr(), i.worst.as_ptr(),
-            i.predecessors.as_ptr(), i.length, i.order.as_ptr(), i.chosen.as_ptr(),
-        )
-    }
+/// The check's verdict.
+pub fn check(i: &Input) -> Verdict {
+    unsafe { speed_check(i.plan, i.constraint) }
 }
 
-/// The best time of a task on a type in the plan read; 0 if the text is refused.
-pub fn read(text: &[u8], task: usize, kind: usize) -> u32 {
-    assert!(task < TASKS && kind < TYPES);
-    unsafe { speed_read(text.as_ptr(), text.len(), task, kind) }
+/// What reading the text gives.
+pub fn read(text: &[u8]) -> Read {
+    unsafe { speed_read(text.as_ptr(), text.len()) }
 }
 
 /// All starts, finishes and the response; zeros if refused.
 pub fn simulate(i: &Input, times: &[u32]) -> Times {
-    let mut run = Times::zero();
-    run.response = unsafe {
-        speed_simulate(
-            i.types, i.units.as_ptr(), i.tasks, i.best.as_ptr(), i.worst.as_ptr(),
-            i.predecessors.as_ptr(), i.length, i.order.as_ptr(), i.chosen.as_ptr(),
-            times.as_ptr(), times.len(), run.starts.as_mut_ptr(), run.finishes.as_mut_ptr(),
-        )
-    };
-    run
+    let s = unsafe { speed_simulate(i.plan, i.constraint, times.as_ptr(), times.len()) };
+    Times { starts: s.starts, finishes: s.finishes, response: s.response }
 }
 
 /// The instant of the state after start and one tick for each report.
@@ -105,12 +155,11 @@ pub fn replay(i: &Input, reports: &[u64], answers: &mut Answers) -> u32 {
     let n = reports.len();
     let Answers { numbers, places, sets } = answers;
     assert!(numbers.len() == n && places.len() == n && sets.len() == n);
-    unsafe {
+    let replayed = unsafe {
         speed_replay(
-            i.types, i.units.as_ptr(), i.tasks, i.best.as_ptr(), i.worst.as_ptr(),
-            i.predecessors.as_ptr(), i.length, i.order.as_ptr(), i.chosen.as_ptr(),
-            reports.as_ptr(), n, numbers.as_mut_ptr(), n, places.as_mut_ptr(), n,
+            i.plan, i.constraint, reports.as_ptr(), n, numbers.as_mut_ptr(), n, places.as_mut_ptr(), n,
             sets.as_mut_ptr(), n,
         )
-    }
+    };
+    replayed.state.instant
 }

@@ -3,9 +3,7 @@
 //!
 //! Before a measurement both must give the same answers on its input. No call
 //! can be left out: inputs and answers go through `black_box`, nothing is
-//! optimised across the archive's edge, and the rival's answers are worked out
-//! whole. Of a text that is read the archive gives back one best time; what it
-//! does not work out because of that cannot be seen from here.
+//! optimised across the archive's edge, and all answers are worked out whole.
 mod calls;
 mod measure;
 mod plans;
@@ -13,7 +11,7 @@ mod plans;
 use calls::{Answers, Input};
 use plans::Shape;
 use rival::fast;
-use rival::limits::{LONGEST_TEXT, LONGEST_TIME, TASKS, TYPES};
+use rival::limits::{LONGEST_TEXT, LONGEST_TIME, TASKS};
 use rival::simulate::worst_times;
 use std::hint::black_box;
 
@@ -49,11 +47,9 @@ impl Table {
 
 fn read(table: &mut Table, name: &str, shape: &Shape) {
     let text = shape.text();
-    let (plan, _) = fast::read(&text).expect("a text that is read");
-    for (at, &best) in plan.best.iter().enumerate() {
-        assert_eq!(calls::read(&text, at / TYPES, at % TYPES), best);
-    }
-    let ours = || calls::read(black_box(&text), black_box(0), black_box(0));
+    let (plan, constraint) = fast::read(&text).expect("a text that is read");
+    assert!(Input::new(&plan, &constraint).is(&calls::read(&text)), "{name}: the plans differ");
+    let ours = || calls::read(black_box(&text));
     let rivals = || fast::read(black_box(&text));
     table.line(name, || measure::by_turns(ours, rivals), 2.0);
 }
@@ -61,7 +57,7 @@ fn read(table: &mut Table, name: &str, shape: &Shape) {
 fn check(table: &mut Table, name: &str, shape: &Shape) {
     let (plan, constraint) = shape.plan();
     let input = Input::new(&plan, &constraint);
-    assert_eq!(calls::check(&input), 0);
+    assert_eq!(calls::check(&input).number, 0);
     assert_eq!(fast::check(&plan, &constraint), Ok(()));
     let ours = || calls::check(black_box(&input));
     let rivals = || fast::check(black_box(&plan), black_box(&constraint));

@@ -17,6 +17,7 @@ use plan::Plan;
 
 // A run state: the instant, how many tasks of the order have started, the set of finished tasks, and each task's start
 // and finish instant, by task number, 0 until it has one.
+#[repr(C)]
 pub struct State {
     pub plan: Plan,
     pub constraint: Constraint,

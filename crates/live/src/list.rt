@@ -12,6 +12,7 @@ use plan::Plan;
 
 // What replay answers: whether each buffer had room; then start's number, place and started set, and the state after the
 // list.
+#[repr(C)]
 pub struct Replayed {
     pub enough: bool,
     pub number: u32,

@@ -75,21 +75,10 @@ pub fn judge(s: State, report: u64) -> Judged
     let c = s.constraint;
     let starts = s.starts;
     let finishes = s.finishes;
-    let types = p.types;
     let tasks = p.tasks;
     let len = c.len;
     let n = s.started;
-    let v = plan::check_parts(
-        types,
-        &p.units,
-        tasks,
-        &p.bcet,
-        &p.wcet,
-        &p.predecessors,
-        len,
-        &c.order,
-        &c.chosen,
-    );
+    let v = plan::check(p, c);
     if (v.number != 0) | (tasks < n) {
         return unsound();
     }

@@ -20,6 +20,7 @@ pub const MOST_PAIRS: usize = MOST_TASKS * MOST_TYPES;
 pub const LONGEST_TIME: u32 = 65535;
 
 // Times are kept task by task: pair_index alone knows where one lies.
+#[repr(C)]
 pub struct Plan {
     pub types: usize,
     pub units: [u32; MOST_TYPES],
@@ -30,6 +31,7 @@ pub struct Plan {
 }
 
 // The execution order and the chosen type of each task: the first `len` entries of two arrays.
+#[repr(C)]
 pub struct Constraint {
     pub len: usize,
     pub order: [usize; MOST_TASKS],
@@ -37,6 +39,7 @@ pub struct Constraint {
 }
 
 // The number and the place of a refusal; 0 and 0 where nothing is refused.
+#[repr(C)]
 pub struct Verdict {
     pub number: u32,
     pub place: usize,

@@ -33,6 +33,7 @@ pub enum Line {
 }
 
 // The plan and the constraint of an accepted text, with number and place 0; or a refusal's number and place, with zeros.
+#[repr(C)]
 pub struct Answer {
     pub number: u32,
     pub place: usize,

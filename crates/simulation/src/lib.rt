@@ -15,6 +15,7 @@ mod run;
 mod times;
 
 // The start and the finish of each task, by task number, and the response; zeros where refused.
+#[repr(C)]
 pub struct Simulation {
     pub number: u32,
     pub place: usize,

@@ -17,11 +17,11 @@ word c = omega arith
 
 -- back to the entry
 abbrev begin : tie.Else1 → tie.Start
-begin c = c .before .before .before .before .before .before .before .before .before .before .before .before .before .before .before
+begin c = c .before .before .before .before .before .before .before
 
 -- what the first two tests leave
 passed : (c : tie.Else1) → Passed (begin c .args .s)
-passed c = passed-first _ (c .before .before .check-parts .ensures) (c .if1 .left)
+passed c = passed-first _ (c .before .before .check .ensures) (c .if1 .left)
 
 -- back to where the first two tests are passed, by way of what was computed since
 abbrev from-marks : tie.After-mark-positions → tie.Else1
@@ -44,7 +44,7 @@ sound-is c =
     c .is-sound .ensures ∙ sound-by _ (passed (first-two c)) (ap (λ (m : Marks). m .users) e) e (o .is-over .ensures)
 
 returns : tie.Need-returns
-returns c = judged-unsound _ _ (unsound-first _ (c .before .before .before .check-parts .ensures) (c .before .if1 .taken)) (c .unsound .ensures)
+returns c = judged-unsound _ _ (unsound-first _ (c .before .before .before .check .ensures) (c .before .if1 .taken)) (c .unsound .ensures)
 
 returns-2 : tie.Need-returns-2
 returns-2 c = judged-unsound _ _ (sym (sound-is (c .before .before)) ∙ not-true _ (c .before .if2 .taken)) (c .unsound2 .ensures)

@@ -1,2 +1,0 @@
--- The definitions that the contracts of `speed` cite.
-pub mod Calls
