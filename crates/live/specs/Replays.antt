@@ -1,57 +1,52 @@
 -- Start and a tick for each report of a lent list, each answer written to lent buffers (demand 3). Assumes nothing.
 use mathlib.Core.Path.{_≡_}
-use mathlib.Core.Bool.{Bool, true, false, cond, _&&_}
-use mathlib.Core.List.{List, _++_, map}
-use Prim.Native.Nat.{ℕ}
-use lib.Dec.{leb}
-use lib.ListN.{length, drop}
+use mathlib.Core.Bool.{cond}
+use mathlib.Core.List.{List, map}
+use Prim.Native.Nat.{ℕ, min}
+use lib.Dec.{eqb}
+use lib.ListN.{length}
 use Rattle.plan.specs.declared.Plan.{Plan}
 use Rattle.plan.specs.declared.Constraint.{Constraint}
+use Rattle.plan.specs.declared.Verdict.{Verdict}
 use Rattle.plan.specs.Refusals.{verdict}
-use Rattle.live.specs.declared.State.{State}
+use Rattle.plan.specs.Buffers.{fitted, filled}
+use Rattle.runs.specs.Journal.{Answer}
 use Rattle.live.specs.declared.list.Replayed.{Replayed}
 use Rattle.live.specs.States.{noState}
 use Rattle.live.specs.Ticks.{started}
 use Rattle.live.specs.Lists.{stateAfter, saidAfter, Faithful}
 
--- the number, the place and the started set that each tick answers, at the front of a lent buffer; the rest unchanged
-unfoldable pub ticksNumbers : State → List ℕ → List ℕ → List ℕ
-ticksNumbers s reports buffer = map (λ a. a .number) (saidAfter s reports) ++ drop (length reports) buffer
+-- 8 to 11, then 19: each report needs an entry in each buffer
+abbrev pub replayVerdict : Plan → Constraint → List ℕ → ℕ → Verdict
+replayVerdict p c reports room = fitted (verdict p c) (length reports) room
 
-unfoldable pub ticksPlaces : State → List ℕ → List ℕ → List ℕ
-ticksPlaces s reports buffer = map (λ a. a .place) (saidAfter s reports) ++ drop (length reports) buffer
-
-unfoldable pub ticksStarted : State → List ℕ → List ℕ → List ℕ
-ticksStarted s reports buffer = map (λ a. a .started) (saidAfter s reports) ++ drop (length reports) buffer
-
--- start's answer and the state after the list; where a buffer is too short, zeros
-unfoldable pub replayed : Plan → Constraint → List ℕ → Bool → Replayed
-replayed p c reports enough =
+-- start's set and the state after the list; "the rest of a refused answer is zeros"
+unfoldable pub replayed : Plan → Constraint → List ℕ → ℕ → Replayed
+replayed p c reports room =
+    let v = replayVerdict p c reports room in
     let opened = started p c in
-    cond
-    enough
-    record {
-      enough = true;
-      number = opened .number;
-      place = opened .place;
-      started = opened .started;
-      state = stateAfter (opened .state) reports;
-    }
-    record { enough = false; number = 0; place = 0; started = 0; state = noState }
+    cond (eqb (v .number) 0)
+    record { number = 0; place = 0; started = opened .started; state = stateAfter (opened .state) reports }
+    record { number = v .number; place = v .place; started = 0; state = noState }
 
--- an answer to each report has room in a buffer
-abbrev pub room : List ℕ → List ℕ → Bool
-room reports buffer = leb (length reports) (length buffer)
+-- a buffer afterwards: one part of each tick's answer
+abbrev pub written : (Answer → ℕ) → Plan → Constraint → List ℕ → ℕ → List ℕ → List ℕ
+written part p c reports room =
+    filled (replayVerdict p c reports room) (map part (saidAfter (started p c .state) reports))
 
--- what replay promises: its answer, every number in its buffers afterwards, and the one claim
+-- the shortest of three buffers decides
+abbrev pub roomIn : List ℕ → List ℕ → List ℕ → ℕ
+roomIn numbers places sets = min (length numbers) (min (length places) (length sets))
+
+-- what replay promises: its answer, every entry of its buffers afterwards, and the one claim
 pub record Replays
     (p : Plan)
     (c : Constraint)
     (reports numbers places sets : List ℕ)
     (r : Replayed)
     (numbers' places' sets' : List ℕ) : Type 0 where
-  pub answer : r ≡ replayed p c reports (room reports numbers && (room reports places && room reports sets))
-  pub numbered : numbers' ≡ cond (r .enough) (ticksNumbers (started p c .state) reports numbers) numbers
-  pub placed : places' ≡ cond (r .enough) (ticksPlaces (started p c .state) reports places) places
-  pub begun : sets' ≡ cond (r .enough) (ticksStarted (started p c .state) reports sets) sets
+  pub answer : r ≡ replayed p c reports (roomIn numbers places sets)
+  pub numbered : numbers' ≡ written (λ a. a .number) p c reports (roomIn numbers places sets) numbers
+  pub placed : places' ≡ written (λ a. a .place) p c reports (roomIn numbers places sets) places
+  pub begun : sets' ≡ written (λ a. a .started) p c reports (roomIn numbers places sets) sets
   pub faithful : verdict p c .number ≡ 0 → Faithful p c reports

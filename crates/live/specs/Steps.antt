@@ -1,6 +1,6 @@
 -- What inner functions of the live run compute. No promise of a public function cites it. Assumes nothing.
 use mathlib.Core.Path.{_≡_}
-use mathlib.Core.Bool.{Bool, true, false, cond, _&&_, _||_}
+use mathlib.Core.Bool.{Bool, true, false, cond, _&&_, _||_, not}
 use mathlib.Core.List.{List}
 use Prim.Native.Nat.{ℕ, zero, suc, _+_, _-_, _^_, _≤_, _<_}
 use lib.Bits.{bitAnd}
@@ -84,7 +84,7 @@ soundBy units users starts finishes m over finished instant =
 
 -- refused at the lowest member of a faulty set, otherwise what follows
 unfoldable pub unlessEmpty : ℕ → ℕ → Verdict → Verdict
-unlessEmpty number faulty rest = cond (eqb faulty 0) rest (refused number (lowest faulty))
+unlessEmpty number faulty rest = cond (not (eqb faulty 0)) (refused number (lowest faulty)) rest
 
 -- 13 to 16, by sets
 unfoldable pub verdictBy : Marks → Bool → ℕ → ℕ → Verdict

@@ -1,20 +1,25 @@
 // Start, and then a tick for each report of a list (demand 3; document 01, "The bench book").
 ghost use mathlib.Core.Path.{_≡_};
-ghost use Prim.Native.Nat.{_≤_};
+ghost use mathlib.Core.List.{map};
+ghost use Prim.Native.Nat.{_≤_, min};
 ghost use lib.ListN.{length};
-ghost use Rattle.live.specs.Lists.{stateAfter};
-ghost use Rattle.live.specs.Replays.{Replays, ticksNumbers, ticksPlaces, ticksStarted};
+ghost use Rattle.plan.specs.Refusals.{refused as refusedBy};
+ghost use Rattle.plan.specs.Buffers.{atStart, fitted as fittedBy};
+ghost use Rattle.live.specs.Lists.{saidAfter, stateAfter};
+ghost use Rattle.live.specs.Replays.{Replays};
 use crate::State;
 use crate::no_state;
 use crate::start;
+use crate::verdicts::refused;
+use crate::verdicts::unless;
 use plan::Constraint;
 use plan::Plan;
+use plan::Verdict;
 
-// What replay answers: whether each buffer had room; then start's number, place and started set, and the state after the
+// What replay answers: a refusal's number and place, or 0 and 0; the set of tasks that start started; the state after the
 // list.
 #[repr(C)]
 pub struct Replayed {
-    pub enough: bool,
     pub number: u32,
     pub place: usize,
     pub started: u64,
@@ -29,12 +34,11 @@ fn tick_each(
     places: &mut [usize],
     sets: &mut [u64],
 ) -> State
-    requires { ⌜ (length (now reports) ≤ length (now numbers)) × ((length (now reports) ≤ length (now places))
-        × (length (now reports) ≤ length (now sets))) ⌝ }
+    requires { ⌜ length (now reports) ≤ min (length (now numbers)) (min (length (now places)) (length (now sets))) ⌝ }
     ensures { λ r. ⌜ (r ≡ stateAfter first (now (reports .entry)))
-        × ((now (numbers .exit) ≡ ticksNumbers first (now (reports .entry)) (now (numbers .entry)))
-        × ((now (places .exit) ≡ ticksPlaces first (now (reports .entry)) (now (places .entry)))
-        × (now (sets .exit) ≡ ticksStarted first (now (reports .entry)) (now (sets .entry))))) ⌝ }
+        × ((now (numbers .exit) ≡ atStart (map (λ a. a .number) (saidAfter first (now (reports .entry)))) (now (numbers .entry)))
+        × ((now (places .exit) ≡ atStart (map (λ a. a .place) (saidAfter first (now (reports .entry)))) (now (places .entry)))
+        × (now (sets .exit) ≡ atStart (map (λ a. a .started) (saidAfter first (now (reports .entry)))) (now (sets .entry))))) ⌝ }
 {
     let mut state = first;
     let mut i = 0;
@@ -49,7 +53,22 @@ fn tick_each(
     state
 }
 
-// Start, then a tick for each report, whatever the answers; where a buffer is shorter than the list, nothing is done.
+fn least(a: usize, b: usize) -> usize
+    ensures { λ r. ⌜ r ≡ min a b ⌝ }
+{
+    if a < b { a } else { b }
+}
+
+// The refusals that come first, then 19.
+fn fitted(number: u32, place: usize, needed: usize, room: usize) -> Verdict
+    ensures { λ r. ⌜ r ≡ fittedBy (refusedBy number place) needed room ⌝ }
+{
+    let none = refused(0, 0);
+    let short = unless(room < needed, 19, needed, none);
+    unless(number != 0, number, place, short)
+}
+
+// Start, then a tick for each report, whatever the answers. Each report needs an entry in each buffer.
 pub fn replay(
     p: Plan,
     c: Constraint,
@@ -61,24 +80,22 @@ pub fn replay(
     ensures { λ r. ⌜ Replays p c (now (reports .entry)) (now (numbers .entry)) (now (places .entry)) (now (sets .entry))
         r (now (numbers .exit)) (now (places .exit)) (now (sets .exit)) ⌝ }
 {
-    let n = reports.len();
-    let enough = (n <= numbers.len()) & ((n <= places.len()) & (n <= sets.len()));
-    if !enough {
+    let t = start(p, c);
+    let room = least(numbers.len(), least(places.len(), sets.len()));
+    let v = fitted(t.number, t.place, reports.len(), room);
+    if v.number != 0 {
         let state = no_state();
         return Replayed {
-            enough: false,
-            number: 0,
-            place: 0,
+            number: v.number,
+            place: v.place,
             started: 0,
             state,
         };
     }
-    let t = start(p, c);
     let state = tick_each(t.state, reports, numbers, places, sets);
     Replayed {
-        enough: true,
-        number: t.number,
-        place: t.place,
+        number: 0,
+        place: 0,
         started: t.started,
         state,
     }

@@ -1,8 +1,8 @@
 // What a tick finds: a refusal (document 01, 12 to 16, in their order), or what the walk needs to go on.
 ghost use mathlib.Core.Path.{_≡_};
+ghost use mathlib.Core.Bool.{cond};
 ghost use Rattle.plan.specs.Refusals.{refused as refusedBy};
-ghost use Rattle.task_set.specs.Sets.{lowest};
-ghost use Rattle.live.specs.Steps.{Judges, verdictBy};
+ghost use Rattle.live.specs.Steps.{Judges, unlessEmpty, verdictBy};
 use crate::State;
 use crate::sets::Marks;
 use crate::sets::mark_positions;
@@ -19,42 +19,43 @@ pub struct Judged {
     pub users: [u64; MOST_TYPES],
 }
 
-fn refused(number: u32, place: usize) -> Verdict
+pub fn refused(number: u32, place: usize) -> Verdict
     ensures { λ r. ⌜ r ≡ refusedBy number place ⌝ }
 {
     Verdict { number, place }
 }
 
-// A refusal at the lowest task of a faulty set.
-fn refused_at(number: u32, faulty: u64) -> Verdict
-    ensures { λ r. ⌜ r ≡ refusedBy number (lowest faulty) ⌝ }
+// A refusal where the test says so, otherwise what follows.
+pub fn unless(bad: bool, number: u32, place: usize, rest: Verdict) -> Verdict
+    ensures { λ r. ⌜ r ≡ cond bad (refusedBy number place) rest ⌝ }
+{
+    if bad {
+        return refused(number, place);
+    }
+    rest
+}
+
+// A refusal at the lowest task of a faulty set, otherwise what follows.
+fn unless_empty(number: u32, faulty: u64, rest: Verdict) -> Verdict
+    ensures { λ r. ⌜ r ≡ unlessEmpty number faulty rest ⌝ }
 {
     let place = task_set::lowest_member(faulty) as usize;
-    refused(number, place)
+    unless(faulty != 0, number, place, rest)
 }
 
 // 13 to 16, of a sound state.
 fn report_verdict(m: Marks, over: bool, finished: u64, report: u64) -> Verdict
     ensures { λ r. ⌜ r ≡ verdictBy m over finished report ⌝ }
 {
-    if over {
-        return refused(13, 0);
-    }
     let running = task_set::difference(m.begun, finished);
-    let late = m.due & running;
     let idle = task_set::difference(report, running);
-    if idle != 0 {
-        return refused_at(14, idle);
-    }
     let early = task_set::difference(report, m.ripe);
-    if early != 0 {
-        return refused_at(15, early);
-    }
-    let overdue = task_set::difference(late, report);
-    if overdue != 0 {
-        return refused_at(16, overdue);
-    }
-    refused(0, 0)
+    let overdue = task_set::difference(m.due & running, report);
+    let none = refused(0, 0);
+    let from_16 = unless_empty(16, overdue, none);
+    let from_15 = unless_empty(15, early, from_16);
+    let from_14 = unless_empty(14, idle, from_15);
+    unless(over, 13, 0, from_14)
 }
 
 fn unsound() -> Judged

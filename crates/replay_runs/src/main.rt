@@ -41,8 +41,8 @@ fn put_ticks(count: usize, numbers: &[u32; MOST], places: &[usize; MOST], sets: 
     }
 }
 
-// Lends the first a, b and e places of buffers filled with 7. Where that is too short for a list, a line `short` has what
-// the first place of each buffer then holds.
+// Lends the first a, b and e places of buffers filled with 7. After a refusal a line `front` has what the first place of
+// each buffer then holds.
 fn show(p: Plan, c: Constraint, reports: &[u64], a: usize, b: usize, e: usize)
     requires { ⌜ (a ≤ 16) × ((b ≤ 16) × (e ≤ 16)) ⌝ }
 {
@@ -57,11 +57,11 @@ fn show(p: Plan, c: Constraint, reports: &[u64], a: usize, b: usize, e: usize)
         &mut places[..b],
         &mut sets[..e],
     );
-    if !r.enough {
-        put_answer(b"short", numbers[0], places[0], sets[0]);
+    put_answer(b"start", r.number, r.place, r.started);
+    if r.number != 0 {
+        put_answer(b"front", numbers[0], places[0], sets[0]);
         return;
     }
-    put_answer(b"start", r.number, r.place, r.started);
     put_ticks(reports.len(), &numbers, &places, &sets);
     let s = r.state;
     put_three(b"state", s.instant as u64, s.started as u64, s.finished);
@@ -105,10 +105,12 @@ fn runs() {
 
 // A text without C lines is read as a constraint of zeros.
 fn refused() {
-    label(b"plan A without C lines");
     let a = plan_a();
     let c = plan::no_constraint();
+    label(b"plan A without C lines");
     show(a.plan, c, &[0, 1], MOST, MOST, MOST);
+    label(b"the same, with too few numbers");
+    show(a.plan, c, &[0, 1], 1, MOST, MOST);
 }
 
 fn buffers() {
