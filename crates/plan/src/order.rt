@@ -1,10 +1,10 @@
 // The check: the plan's rules, then three passes over the order of the constraint.
 ghost use mathlib.Core.Path.{_≡_};
-ghost use mathlib.Core.Bool.{cond, true};
+ghost use mathlib.Core.Bool.{cond};
 ghost use lib.Dec.{ltb};
 ghost use Prim.Native.Nat.{_≤_};
 ghost use Rattle.task_set.specs.Bounded.{first};
-ghost use Rattle.plan.specs.Rules.{mostTasks, planOk};
+ghost use Rattle.plan.specs.Rules.{mostTasks};
 ghost use Rattle.plan.specs.Refusals.{misplaced, refused as refusedAt, unusable, verdict};
 ghost use Rattle.plan.specs.Steps.{unmet};
 use crate::Constraint;
@@ -14,7 +14,7 @@ use crate::Plan;
 use crate::Verdict;
 use crate::is_usable;
 use crate::predecessors_of;
-use crate::rules::plan_ok;
+use crate::rules::rules_hold;
 
 // 9: the first position whose task is absent or repeats, and the length where there is none.
 fn first_misplaced(tasks: usize, order: &[usize; MOST_TASKS], len: usize) -> usize
@@ -95,31 +95,23 @@ fn unless_at(number: u32, place: usize, n: usize, rest: Verdict) -> Verdict
     rest
 }
 
-// 9 to 11, in the order in which they are tried, of a plan without fault and an order of so many entries as tasks.
-fn order_verdict(p: Plan, c: Constraint) -> Verdict
-    requires { ⌜ (planOk p ≡ true) × (c .len ≡ p .tasks) ⌝ }
+// What the check finds: 8 to 11 with their places, or that it takes both.
+pub fn check(p: Plan, c: Constraint) -> Verdict
     ensures { λ r. ⌜ r ≡ verdict p c ⌝ }
 {
     let types = p.types;
     let tasks = p.tasks;
+    let len = c.len;
+    if !rules_hold(types, &p.units, tasks, &p.bcet, &p.wcet, &p.predecessors) {
+        return refused(8, 0);
+    }
+    if len != tasks {
+        return refused(9, len);
+    }
     let misplaced = first_misplaced(tasks, &c.order, tasks);
     let unusable = first_unusable(types, &p.wcet, &c.order, &c.chosen, tasks);
     let unmet = first_unmet(&p.predecessors, &c.order, tasks);
     let eleven = unless_at(11, unmet, tasks, refused(0, 0));
     let ten = unless_at(10, unusable, tasks, eleven);
     unless_at(9, misplaced, tasks, ten)
-}
-
-// What the check finds: 8 to 11 with their places, or that it takes both.
-pub fn check(p: Plan, c: Constraint) -> Verdict
-    ensures { λ r. ⌜ r ≡ verdict p c ⌝ }
-{
-    if !plan_ok(p) {
-        return refused(8, 0);
-    }
-    let len = c.len;
-    if len != p.tasks {
-        return refused(9, len);
-    }
-    order_verdict(p, c)
 }

@@ -2,6 +2,7 @@
 ghost use mathlib.Core.Path.{_≡_};
 ghost use Prim.Native.Nat.{_<_, _≤_};
 ghost use Rattle.task_set.specs.Bounded.{all};
+ghost use Rattle.plan.specs.Refusals.{planOf};
 ghost use Rattle.plan.specs.Rules.{countsOk, mostPairs, mostTasks, mostTypes, planOk, predecessorsOk, unitsOk};
 ghost use Rattle.plan.specs.Steps.{noTypeFrom, pairFits, pairFitsAt, restOk, typesOk};
 use crate::LONGEST_TIME;
@@ -115,15 +116,30 @@ fn all_tasks_ok<'a>(
     ok
 }
 
+// Whether the plan with these parts breaks no rule: they are lent, so that nothing is copied.
+pub fn rules_hold<'a>(
+    types: usize,
+    units: &'a [u32; MOST_TYPES],
+    tasks: usize,
+    bcet: &'a [u32; MOST_PAIRS],
+    wcet: &'a [u32; MOST_PAIRS],
+    predecessors: &'a [u64; MOST_TASKS],
+) -> bool
+    ensures { λ r. ⌜ r ≡ planOk
+        (planOf types (now (units .entry)) tasks (now (bcet .entry)) (now (wcet .entry)) (now (predecessors .entry))) ⌝ }
+{
+    if !counts_ok(types, tasks) {
+        return false;
+    }
+    all_units_ok(types, units)
+        & (all_pairs_fit(bcet, wcet) & all_tasks_ok(types, tasks, wcet, predecessors))
+}
+
 // Whether the plan breaks no rule: 8 alone.
 pub fn plan_ok(p: Plan) -> bool
     ensures { λ r. ⌜ r ≡ planOk p ⌝ }
 {
     let types = p.types;
     let tasks = p.tasks;
-    if !counts_ok(types, tasks) {
-        return false;
-    }
-    all_units_ok(types, &p.units)
-        & (all_pairs_fit(&p.bcet, &p.wcet) & all_tasks_ok(types, tasks, &p.wcet, &p.predecessors))
+    rules_hold(types, &p.units, tasks, &p.bcet, &p.wcet, &p.predecessors)
 }
