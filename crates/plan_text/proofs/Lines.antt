@@ -8,11 +8,10 @@ use lib.Dec.{eqb, ltb}
 use lib.ListN.{length, getD, drop, set}
 use borrow.Author.Tests.{eq-eqb, ne-eqb, eqb-true, lt-ltb, le-ltb}
 use Rattle.task_set.proofs.Truth.{clash, by-test, and-left, and-right}
-use Rattle.plan_text.specs.declared.Line.the-variants.{NoLine}
+use Rattle.plan_text.specs.declared.LineForm.the-variants.{NoForm}
 use Rattle.plan_text.specs.declared.form.Field.the-variants.{Number, NoField}
-use Rattle.plan_text.specs.Form.{tab, split, isField, valueFrom, allFields, values, formOf, lineOfParts, lineOf}
-use Rattle.plan_text.specs.Steps.{partLength, firstPart, fieldOf, mostFields, noFields, fieldsFrom, fieldsOf, lineFrom}
-use Rattle.plan_text.proofs.Tests.{cond-same}
+use Rattle.plan_text.specs.Form.{tab, split, isField, valueFrom, allFields, formOf, lineOfParts, lineOf}
+use Rattle.plan_text.specs.Steps.{partLength, firstPart, fieldOf, mostFields, noFields, fieldsFrom, fieldsOf, formFrom}
 use Rattle.plan_text.proofs.Parts.{part-length, split-last, split-more, split-first}
 
 -- ---- what a field tells of its part
@@ -70,14 +69,6 @@ module _ (t : List ℕ) (n : ℕ) (vs : List ℕ) where
 
 -- ---- the line
 
-here : (part : List ℕ) (parts : List (List ℕ)) → allFields (part ∷ parts) ≡ true → isField part ≡ true
-unfolding allFields
-here part parts e = and-left (isField part) (allFields parts) e
-
-later : (part : List ℕ) (parts : List (List ℕ)) → allFields (part ∷ parts) ≡ true → allFields parts ≡ true
-unfolding allFields
-later part parts e = and-right (isField part) (allFields parts) e
-
 -- a part that is no field leaves no fields
 fields-off : (parts : List (List ℕ)) (n : ℕ) (vs : List ℕ) → allFields parts ≡ false → fieldsFrom parts n vs ≡ noFields
 unfolding allFields fieldsFrom
@@ -91,73 +82,76 @@ fields-off (part ∷ parts) n vs e = go (ltb n mostFields) (isField part) e (fie
     go true false e ih = refl
     go true true e ih = ih e
 
+abbrev valueAt : List (List ℕ) → ℕ → ℕ
+valueAt parts i = valueFrom 0 (getD parts i [])
+
 module _ (letter : ℕ) where
   -- no form has no fields
-  no-form : lineFrom letter noFields ≡ NoLine
-  unfolding lineFrom
-  no-form = simp and-false
+  no-form : (v : ℕ → ℕ) → formOf letter 0 v ≡ NoForm
+  unfolding formOf
+  no-form v = simp and-false
 
   -- nor has one so many
-  too-many : (vs : List ℕ) → mostFields < length vs → formOf (letter ∷ []) vs ≡ NoLine
+  too-many : (n : ℕ) (v : ℕ → ℕ) → mostFields < n → formOf letter n v ≡ formFrom letter noFields
   unfolding formOf
-  too-many vs l = simp (ne-eqb (length vs) 2 (λ e. omega arith), ne-eqb (length vs) 4 (λ e. omega arith), and-false)
+  too-many n v l = simp (ne-eqb n 2 (λ e. omega arith), ne-eqb n 4 (λ e. omega arith), and-false)
 
-  all-forms : (parts : List (List ℕ)) → allFields parts ≡ true → formOf (letter ∷ []) (values parts) ≡ lineFrom letter (fieldsOf parts)
-  unfolding fieldsFrom formOf lineFrom values
+  all-forms : (parts : List (List ℕ)) → allFields parts ≡ true → formOf letter (length parts) (valueAt parts) ≡ formFrom letter (fieldsOf parts)
+  unfolding allFields fieldsFrom formOf valueFrom
   all-forms [] e = refl
-  all-forms (p ∷ []) e = rw (here p [] e)
-  all-forms (p ∷ q ∷ []) e = let e₁ = later p (q ∷ []) e in rw (here p (q ∷ []) e, here q [] e₁)
+  all-forms (p ∷ []) e = rw (and-left (isField p) _ e)
+  all-forms (p ∷ q ∷ []) e = rw (and-left (isField p) _ e, and-left (isField q) _ (and-right (isField p) _ e))
   all-forms (p ∷ q ∷ r ∷ []) e =
-      let e₁ = later p (q ∷ r ∷ []) e in
-      let e₂ = later q (r ∷ []) e₁ in
-      rw (here p (q ∷ r ∷ []) e, here q (r ∷ []) e₁, here r [] e₂)
+      let e₁ = and-right (isField p) _ e in
+      rw (and-left (isField p) _ e, and-left (isField q) _ e₁, and-left (isField r) _ (and-right (isField q) _ e₁))
   all-forms (p ∷ q ∷ r ∷ s ∷ rest) e =
-      let e₁ = later p (q ∷ r ∷ s ∷ rest) e in
-      let e₂ = later q (r ∷ s ∷ rest) e₁ in
-      let e₃ = later r (s ∷ rest) e₂ in
-      rw (here p (q ∷ r ∷ s ∷ rest) e, here q (r ∷ s ∷ rest) e₁, here r (s ∷ rest) e₂, here s rest e₃) (go rest)
+      let e₁ = and-right (isField p) _ e in
+      let e₂ = and-right (isField q) _ e₁ in
+      let e₃ = and-right (isField r) _ e₂ in
+      rw (and-left (isField p) _ e, and-left (isField q) _ e₁, and-left (isField r) _ e₂, and-left (isField s) _ e₃) (go rest)
     where
-      go : (rest : List (List ℕ)) → formOf (letter ∷ []) (valueFrom 0 p ∷ valueFrom 0 q ∷ valueFrom 0 r ∷ valueFrom 0 s ∷ values rest)
-          ≡ lineFrom letter (fieldsFrom rest 4 (valueFrom 0 p ∷ valueFrom 0 q ∷ valueFrom 0 r ∷ valueFrom 0 s ∷ []))
+      go : (rest : List (List ℕ)) → formOf letter (length (p ∷ q ∷ r ∷ s ∷ rest)) (valueAt (p ∷ q ∷ r ∷ s ∷ rest))
+          ≡ formFrom letter (fieldsFrom rest 4 (valueFrom 0 p ∷ valueFrom 0 q ∷ valueFrom 0 r ∷ valueFrom 0 s ∷ []))
       go [] = refl
-      go (t ∷ rest) = too-many (valueFrom 0 p ∷ valueFrom 0 q ∷ valueFrom 0 r ∷ valueFrom 0 s ∷ values (t ∷ rest)) (omega arith) ∙ sym no-form
+      go (t ∷ rest) = too-many (length (p ∷ q ∷ r ∷ s ∷ t ∷ rest)) (valueAt (p ∷ q ∷ r ∷ s ∷ t ∷ rest)) (omega arith)
 
-  forms : (parts : List (List ℕ)) → cond (allFields parts) (formOf (letter ∷ []) (values parts)) NoLine ≡ lineFrom letter (fieldsOf parts)
+  forms : (parts : List (List ℕ)) → cond (allFields parts) (formOf letter (length parts) (valueAt parts)) NoForm ≡ formFrom letter (fieldsOf parts)
   forms parts =
       by-test (allFields parts) (λ e. rw e (all-forms parts e))
-      (λ e. rw (e, fields-off parts 0 (noFields .values) e) (sym no-form))
+      (λ e. rw (e, fields-off parts 0 (noFields .values) e) (sym (no-form _)))
 
 -- a line with no one letter before its first tab
-no-letter : (letter : List ℕ) (fields : List (List ℕ)) → (length letter ≡ 1 → ⊥) → lineOfParts (letter ∷ fields) ≡ NoLine
-unfolding formOf
-no-letter letter fields f = rw (ne-eqb (length letter) 1 f) (cond-same (allFields fields) NoLine)
+no-letter : (letter : List ℕ) (fields : List (List ℕ)) → (length letter ≡ 1 → ⊥) → lineOfParts (letter ∷ fields) ≡ NoForm
+no-letter letter fields f = rw (ne-eqb (length letter) 1 f)
 
-pub line-short : (s : List ℕ) → length s < 2 → lineOf s ≡ NoLine
-unfolding lineOf split allFields values isField formOf
+pub line-short : (s : List ℕ) → length s < 2 → lineOf s ≡ NoForm
+unfolding lineOf split allFields isField
 line-short [] l = refl
 line-short (b ∷ []) l = go (eqb b tab)
   where
-    go : (x : Bool) → lineOfParts (cond x ([] ∷ [] ∷ []) ((b ∷ []) ∷ [])) ≡ NoLine
+    go : (x : Bool) → lineOfParts (cond x ([] ∷ [] ∷ []) ((b ∷ []) ∷ [])) ≡ NoForm
     go true = refl
-    go false = simp and-false
+    go false = no-form b _
 line-short (b ∷ a ∷ s) l = absurd (omega arith)
 
-pub line-untabbed : (s : List ℕ) → 2 ≤ length s → (getD s 1 0 ≡ tab → ⊥) → lineOf s ≡ NoLine
+pub line-untabbed : (s : List ℕ) → 2 ≤ length s → (getD s 1 0 ≡ tab → ⊥) → lineOf s ≡ NoForm
 unfolding lineOf split
 line-untabbed [] l f = absurd (omega arith)
 line-untabbed (b ∷ []) l f = absurd (omega arith)
 line-untabbed (b ∷ a ∷ s) l f = rw (ne-eqb a tab f, split-first tab s .1) (go (eqb b tab))
   where
-    go : (x : Bool) → lineOfParts (cond x ([] ∷ (a ∷ firstPart tab s) ∷ split-first tab s .0) ((b ∷ a ∷ firstPart tab s) ∷ split-first tab s .0)) ≡ NoLine
-    go true = no-letter [] ((a ∷ firstPart tab s) ∷ split-first tab s .0) (λ e. omega arith)
+    go : (x : Bool)
+        → lineOfParts (cond x ([] ∷ (a ∷ firstPart tab s) ∷ split-first tab s .0) ((b ∷ a ∷ firstPart tab s) ∷ split-first tab s .0)) ≡ NoForm
+    go true = refl
     go false = no-letter (b ∷ a ∷ firstPart tab s) (split-first tab s .0) (λ e. omega arith)
 
-pub line-tabbed : (s : List ℕ) → 2 ≤ length s → getD s 1 0 ≡ tab → lineOf s ≡ lineFrom (getD s 0 0) (fieldsOf (split tab (drop 2 s)))
-unfolding lineOf split lineFrom
+pub line-tabbed : (s : List ℕ) → 2 ≤ length s → getD s 1 0 ≡ tab → lineOf s ≡ formFrom (getD s 0 0) (fieldsOf (split tab (drop 2 s)))
+unfolding lineOf split formOf
 line-tabbed [] l e = absurd (omega arith)
 line-tabbed (b ∷ []) l e = absurd (omega arith)
 line-tabbed (b ∷ a ∷ s) l e = rw (eq-eqb a tab e) (go (eqb b tab) refl)
   where
-    go : (x : Bool) → eqb b tab ≡ x → lineOfParts (cond x ([] ∷ [] ∷ split tab s) ((b ∷ []) ∷ split tab s)) ≡ lineFrom b (fieldsOf (split tab s))
-    go true f = no-letter [] ([] ∷ split tab s) (λ e. omega arith) ∙ rw (eqb-true b tab f) refl
+    go : (x : Bool) → eqb b tab ≡ x
+        → lineOfParts (cond x ([] ∷ [] ∷ split tab s) ((b ∷ []) ∷ split tab s)) ≡ formFrom b (fieldsOf (split tab s))
+    go true f = rw (eqb-true b tab f) refl
     go false f = forms b (split tab s)

@@ -5,8 +5,9 @@ use Prim.Native.Nat.{ℕ, _+_, _-_, _*_}
 use lib.Dec.{eqb}
 use lib.ListN.{length, getD}
 use Rattle.plan.specs.Rules.{between}
-use Rattle.plan_text.specs.declared.Line.{Line}
-use Rattle.plan_text.specs.declared.Line.the-variants.{Units, Times, Arrow, Choice, NoLine}
+use Rattle.plan_text.specs.declared.Line.the-variants.{Units, Times, Arrow, Choice}
+use Rattle.plan_text.specs.declared.LineForm.{LineForm}
+use Rattle.plan_text.specs.declared.LineForm.the-variants.{Of, NoForm}
 
 -- ---- the bytes
 
@@ -55,29 +56,22 @@ unfoldable pub allFields : List (List ℕ) → Bool
 allFields [] = true
 allFields (s ∷ rest) = isField s && allFields rest
 
-unfoldable pub values : List (List ℕ) → List ℕ
-values [] = []
-values (s ∷ rest) = valueFrom 0 s ∷ values rest
-
 -- ---- a line: "a letter, then decimal fields, each after one tab"
 
--- the part is this one letter
-abbrev pub isLetter : ℕ → List ℕ → Bool
-isLetter letter part = eqb (length part) 1 && eqb (getD part 0 0) letter
+-- U, type, count of units; T, task, type, best, worst; A, from, to; C, task, type: by the letter, how many fields, and their values
+unfoldable pub formOf : ℕ → ℕ → (ℕ → ℕ) → LineForm
+formOf letter n v =
+    cond (eqb letter 85 && eqb n 2) (Of (Units (v 0) (v 1)))
+    (cond (eqb letter 84 && eqb n 4) (Of (Times (v 0) (v 1) (v 2) (v 3)))
+    (cond (eqb letter 65 && eqb n 2) (Of (Arrow (v 0) (v 1)))
+    (cond (eqb letter 67 && eqb n 2) (Of (Choice (v 0) (v 1)))
+    NoForm)))
 
--- U, type, count of units; T, task, type, best, worst; A, from, to; C, task, type
-unfoldable pub formOf : List ℕ → List ℕ → Line
-formOf letter vs =
-    let v = getD vs in
-    cond (isLetter 85 letter && eqb (length vs) 2) (Units (v 0 0) (v 1 0))
-    (cond (isLetter 84 letter && eqb (length vs) 4) (Times (v 0 0) (v 1 0) (v 2 0) (v 3 0))
-    (cond (isLetter 65 letter && eqb (length vs) 2) (Arrow (v 0 0) (v 1 0))
-    (cond (isLetter 67 letter && eqb (length vs) 2) (Choice (v 0 0) (v 1 0))
-    NoLine)))
+abbrev pub lineOfParts : List (List ℕ) → LineForm
+lineOfParts [] = NoForm
+lineOfParts (letter ∷ fields) =
+    let form = formOf (getD letter 0 0) (length fields) (λ i. valueFrom 0 (getD fields i [])) in
+    cond (eqb (length letter) 1 && allFields fields) form NoForm
 
-abbrev pub lineOfParts : List (List ℕ) → Line
-lineOfParts [] = NoLine
-lineOfParts (letter ∷ fields) = cond (allFields fields) (formOf letter (values fields)) NoLine
-
-unfoldable pub lineOf : List ℕ → Line
+unfoldable pub lineOf : List ℕ → LineForm
 lineOf s = lineOfParts (split tab s)

@@ -5,14 +5,12 @@ use mathlib.Core.List.{List, [], _∷_}
 use Prim.Native.Nat.{ℕ, suc, _+_, _-_, _^_, _≤_, _<_}
 use lib.Dec.{eqb, ltb}
 use lib.ListN.{length, getD, take, drop, set, replicate}
-use Rattle.plan_text.specs.declared.Line.{Line}
-use Rattle.plan_text.specs.declared.Line.the-variants.{Units, Times, Arrow, Choice, NoLine}
-use Rattle.plan_text.specs.declared.step.Counts.{Counts}
+use Rattle.plan_text.specs.declared.LineForm.{LineForm}
+use Rattle.plan_text.specs.declared.LineForm.the-variants.{NoForm}
 use Rattle.plan_text.specs.declared.form.Field.{Field}
 use Rattle.plan_text.specs.declared.form.Field.the-variants.{Number, NoField}
 use Rattle.plan_text.specs.declared.form.Fields.{Fields}
-use Rattle.plan_text.specs.Form.{mostDigits, allDigits, isField, valueFrom, lineOf}
-use Rattle.plan_text.specs.Reading.{Reading}
+use Rattle.plan_text.specs.Form.{mostDigits, allDigits, isField, valueFrom, formOf, lineOf}
 
 -- ---- the first part
 
@@ -57,39 +55,9 @@ fieldsOf parts = fieldsFrom parts (noFields .count) (noFields .values)
 -- ---- a line
 
 -- the line of a letter and fields
-unfoldable pub lineFrom : ℕ → Fields → Line
-lineFrom letter f =
-    let n = f .count in
-    let v = getD (f .values) in
-    cond (eqb letter 85 && eqb n 2) (Units (v 0 0) (v 1 0))
-    (cond (eqb letter 84 && eqb n 4) (Times (v 0 0) (v 1 0) (v 2 0) (v 3 0))
-    (cond (eqb letter 65 && eqb n 2) (Arrow (v 0 0) (v 1 0))
-    (cond (eqb letter 67 && eqb n 2) (Choice (v 0 0) (v 1 0))
-    NoLine)))
+abbrev pub formFrom : ℕ → Fields → LineForm
+formFrom letter f = formOf letter (f .count) (λ i. getD (f .values) i 0)
 
 -- the line from a to a newline at e; where there is none the line has none of the forms
-unfoldable pub lineAt : List ℕ → ℕ → ℕ → Line
-lineAt s a e = cond (ltb e (length s)) (lineOf (take (e - a) (drop a s))) NoLine
-
--- ---- what was read so far
-
--- the reading of these arrays and numbers
-abbrev pub gather : List ℕ → List ℕ → List ℕ → List ℕ → List ℕ → List ℕ → Counts → Reading
-gather units bcet wcet predecessors order types c =
-    record {
-      plan = record {
-        types = c .types;
-        units = units;
-        tasks = c .tasks;
-        bcet = bcet;
-        wcet = wcet;
-        predecessors = predecessors;
-      };
-      constraint = record { len = c .len; order = order; chosen = types };
-      kind = c .kind;
-      timed = c .timed;
-      chosen = c .chosen;
-    }
-
-abbrev pub noCounts : Counts
-noCounts = record { types = 0; tasks = 0; len = 0; kind = 0; timed = 0; chosen = 0 }
+unfoldable pub lineAt : List ℕ → ℕ → ℕ → LineForm
+lineAt s a e = cond (ltb e (length s)) (lineOf (take (e - a) (drop a s))) NoForm

@@ -5,6 +5,8 @@ use Prim.Native.Nat.{ℕ, _+_}
 use lib.Dec.{eqb, ltb}
 use lib.ListN.{length}
 use Rattle.plan_text.specs.declared.Answer.{Answer}
+use Rattle.plan_text.specs.declared.LineForm.{LineForm}
+use Rattle.plan_text.specs.declared.LineForm.the-variants.{Of, NoForm}
 use Rattle.plan_text.specs.Form.{newline, split, lineOf}
 use Rattle.plan.specs.Refusals.{noPlan, noConstraint}
 use Rattle.plan_text.specs.Reading.{Reading, nothing, lineFault, lineDone}
@@ -17,17 +19,22 @@ mostBytes = 32768
 abbrev pub refused : ℕ → ℕ → Answer
 refused number place = record { number = number; place = place; plan = noPlan; constraint = noConstraint }
 
-abbrev pub accepted : Reading → Answer
-accepted r = record { number = 0; place = 0; plan = r .plan; constraint = r .constraint }
+abbrev pub answerOf : Reading → Answer
+answerOf r = record { number = 0; place = 0; plan = r .plan; constraint = r .constraint }
+
+-- the answer by line k and, where it has no fault, by what follows it; 2 is "not one of the four line forms"
+abbrev pub answerBy : LineForm → ℕ → Reading → (Reading → Answer) → Answer
+answerBy NoForm k r further = refused 2 k
+answerBy (Of line) k r further =
+    let fault = lineFault r line in
+    let next = further (lineDone r line) in
+    cond (eqb fault 0) next (refused fault k)
 
 -- the lines from line k on, after what was read; "the first faulty line decides"; what follows the last newline must be empty
 unfoldable pub readLines : List (List ℕ) → ℕ → Reading → Answer
-readLines [] k r = accepted r
-readLines (end ∷ []) k r = cond (eqb (length end) 0) (accepted r) (refused 2 k)
-readLines (line ∷ next ∷ rest) k r =
-    let fault = lineFault r (lineOf line) in
-    let further = readLines (next ∷ rest) (k + 1) (lineDone r (lineOf line)) in
-    cond (eqb fault 0) further (refused fault k)
+readLines [] k r = answerOf r
+readLines (end ∷ []) k r = cond (eqb (length end) 0) (answerOf r) (refused 2 k)
+readLines (line ∷ next ∷ rest) k r = answerBy (lineOf line) k r (readLines (next ∷ rest) (k + 1))
 
 unfoldable pub readText : List ℕ → Answer
 readText s = cond (ltb mostBytes (length s)) (refused 1 0) (readLines (split newline s) 1 nothing)

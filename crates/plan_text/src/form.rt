@@ -2,8 +2,9 @@
 ghost use mathlib.Core.Path.{_≡_};
 ghost use lib.ListN.{take};
 ghost use Rattle.plan_text.specs.Form.{digitValue, isDigit, lineOf, split, tab};
-ghost use Rattle.plan_text.specs.Steps.{Digits, fieldOf, fieldsOf, firstPart, lineFrom, noFields};
+ghost use Rattle.plan_text.specs.Steps.{Digits, fieldOf, fieldsOf, firstPart, formFrom, noFields};
 use crate::Line;
+use crate::LineForm;
 
 const TAB: u8 = b'\t';
 
@@ -107,35 +108,35 @@ fn read_fields(s: &[u8]) -> Fields
 }
 
 // The line of a letter and fields: a form has one letter and so many fields.
-fn form_of(letter: u8, f: Fields) -> Line
-    ensures { λ r. ⌜ r ≡ lineFrom letter f ⌝ }
+fn form_of(letter: u8, f: Fields) -> LineForm
+    ensures { λ r. ⌜ r ≡ formFrom letter f ⌝ }
 {
     let n = f.count;
     let v = f.values;
     if (letter == b'U') & (n == 2) {
-        return Line::Units(v[0], v[1]);
+        return LineForm::Of(Line::Units(v[0], v[1]));
     }
     if (letter == b'T') & (n == 4) {
-        return Line::Times(v[0], v[1], v[2], v[3]);
+        return LineForm::Of(Line::Times(v[0], v[1], v[2], v[3]));
     }
     if (letter == b'A') & (n == 2) {
-        return Line::Arrow(v[0], v[1]);
+        return LineForm::Of(Line::Arrow(v[0], v[1]));
     }
     if (letter == b'C') & (n == 2) {
-        return Line::Choice(v[0], v[1]);
+        return LineForm::Of(Line::Choice(v[0], v[1]));
     }
-    Line::NoLine
+    LineForm::NoForm
 }
 
 // A line, without its newline.
-pub fn read_line(s: &[u8]) -> Line
+pub fn read_line(s: &[u8]) -> LineForm
     ensures { λ r. ⌜ r ≡ lineOf (now (s .entry)) ⌝ }
 {
     if s.len() < 2 {
-        return Line::NoLine;
+        return LineForm::NoForm;
     }
     if s[1] != TAB {
-        return Line::NoLine;
+        return LineForm::NoForm;
     }
     let letter = s[0];
     let f = read_fields(&s[2..]);

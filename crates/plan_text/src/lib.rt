@@ -3,21 +3,16 @@ ghost use mathlib.Core.Path.{_≡_};
 ghost use Prim.Native.Nat.{_+_, _≤_};
 ghost use lib.ListN.{drop};
 ghost use Rattle.plan_text.specs.Form.{newline};
-ghost use Rattle.plan_text.specs.Steps.{gather, lineAt, partLength};
-ghost use Rattle.plan_text.specs.Text.{accepted, readText, refused};
+ghost use Rattle.plan_text.specs.Steps.{lineAt, partLength};
+ghost use Rattle.plan_text.specs.Text.{readText, refused};
+use fault::line_fault;
 use form::read_line;
 use plan::Constraint;
-use plan::MOST_PAIRS;
-use plan::MOST_TASKS;
-use plan::MOST_TYPES;
 use plan::Plan;
-use step::Counts;
-use step::line_done;
-use step::line_fault;
-use step::no_counts;
 
+mod fault;
+mod fill;
 mod form;
-mod step;
 
 const NEWLINE: u8 = b'\n';
 
@@ -29,7 +24,19 @@ pub enum Line {
     Times(u32, u32, u32, u32),
     Arrow(u32, u32),
     Choice(u32, u32),
-    NoLine,
+}
+
+// What reading a line gives: the line, or bytes of none of the forms.
+pub enum LineForm {
+    Of(Line),
+    NoForm,
+}
+
+// Of the lines before: the kind of the last, the tasks with a T line, and the tasks with a C line.
+pub struct Seen {
+    pub kind: u32,
+    pub timed: u64,
+    pub listed: u64,
 }
 
 // The plan and the constraint of an accepted text, with number and place 0; or a refusal's number and place, with zeros.
@@ -54,38 +61,6 @@ fn refuse(number: u32, place: usize) -> Answer
     }
 }
 
-fn accept(
-    units: [u32; MOST_TYPES],
-    bcet: [u32; MOST_PAIRS],
-    wcet: [u32; MOST_PAIRS],
-    predecessors: [u64; MOST_TASKS],
-    order: [usize; MOST_TASKS],
-    chosen: [usize; MOST_TASKS],
-    c: Counts,
-) -> Answer
-    ensures { λ r. ⌜ r ≡ accepted (gather units bcet wcet predecessors order chosen c) ⌝ }
-{
-    let plan = Plan {
-        types: c.types,
-        units,
-        tasks: c.tasks,
-        bcet,
-        wcet,
-        predecessors,
-    };
-    let constraint = Constraint {
-        len: c.len,
-        order,
-        chosen,
-    };
-    Answer {
-        number: 0,
-        place: 0,
-        plan,
-        constraint,
-    }
-}
-
 // Where the line that begins at `at` has its newline; the end of the text where it has none.
 fn line_end(text: &[u8], at: usize) -> usize
     ensures { λ r. ⌜ r ≡ at + partLength newline (drop at (now (text .entry))) ⌝ }
@@ -101,12 +76,12 @@ fn line_end(text: &[u8], at: usize) -> usize
 }
 
 // The line from `at` to a newline at `e`. A line that no newline ends has none of the forms.
-fn line_at(text: &[u8], at: usize, e: usize) -> Line
+fn line_at(text: &[u8], at: usize, e: usize) -> LineForm
     requires { ⌜ at ≤ e ⌝ }
     ensures { λ r. ⌜ r ≡ lineAt (now (text .entry)) at e ⌝ }
 {
     if text.len() <= e {
-        return Line::NoLine;
+        return LineForm::NoForm;
     }
     read_line(&text[at..e])
 }
@@ -118,34 +93,41 @@ pub fn read(text: &[u8]) -> Answer
     if MOST_BYTES < text.len() {
         return refuse(1, 0);
     }
-    let mut units = [0; MOST_TYPES];
-    let mut bcet = [0; MOST_PAIRS];
-    let mut wcet = [0; MOST_PAIRS];
-    let mut predecessors = [0; MOST_TASKS];
-    let mut order = [0; MOST_TASKS];
-    let mut chosen = [0; MOST_TASKS];
-    let mut c = no_counts();
+    let mut p = plan::no_plan();
+    let mut c = plan::no_constraint();
+    let mut seen = Seen {
+        kind: 0,
+        timed: 0,
+        listed: 0,
+    };
     let mut at = 0;
     let mut place = 1;
     while at < text.len() {
         let e = line_end(text, at);
-        let line = line_at(text, at, e);
-        let fault = line_fault(&wcet, &predecessors, c, line);
+        let LineForm::Of(line) = line_at(text, at, e) else {
+            return refuse(2, place);
+        };
+        let fault = line_fault(p.types, &p.wcet, &p.predecessors, seen, line);
         if fault != 0 {
             return refuse(fault, place);
         }
-        c = line_done(
-            &mut units,
-            &mut bcet,
-            &mut wcet,
-            &mut predecessors,
-            &mut order,
-            &mut chosen,
-            c,
-            line,
-        );
+        p.types = fill::types(p.types, line);
+        fill::units(&mut p.units, line);
+        p.tasks = fill::tasks(p.tasks, line);
+        fill::best(&mut p.bcet, line);
+        fill::worst(&mut p.wcet, line);
+        fill::predecessors(&mut p.predecessors, line);
+        fill::order(c.len, &mut c.order, line);
+        fill::chosen(c.len, &mut c.chosen, line);
+        c.len = fill::len(c.len, line);
+        seen = fill::seen(seen, line);
         at = e + 1;
         place += 1;
     }
-    accept(units, bcet, wcet, predecessors, order, chosen, c)
+    Answer {
+        number: 0,
+        place: 0,
+        plan: p,
+        constraint: c,
+    }
 }

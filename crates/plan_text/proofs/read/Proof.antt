@@ -1,122 +1,164 @@
 -- `plan_text::read` meets its contract: the answer is that of the lines left, after what was read so far. Assumes nothing.
-use mathlib.Core.Path.{_≡_, sym, ap, subst, _∙_}
+use mathlib.Core.Path.{_≡_, sym, _∙_}
+use mathlib.Core.Bool.{false}
 use mathlib.Core.List.{List}
 use Prim.Native.Nat.{ℕ, _+_, _-_, _≤_, _<_}
 use native.Mathlib.Omega.{arith}
 use lib.ListN.{length, drop, drop-of-length-le}
 use borrow.Author.Needs.{needs}
+use Rattle.plan.specs.Rules.{mostTasks}
 use Rattle.plan_text.specs.Form.{newline, split}
-use Rattle.plan_text.specs.Reading.{Reading, nothing, lineFault, lineDone}
-use Rattle.plan_text.specs.Text.{readLines, readText}
+use Rattle.plan_text.specs.Reading.{Reading, outOfRange, lineFault, lineDone}
+use Rattle.plan_text.specs.Text.{mostBytes, readLines, readText}
 use Rattle.plan_text.specs.declared.Line.{Line}
-use Rattle.plan_text.specs.Steps.{gather, lineAt, partLength}
-use Rattle.plan_text.proofs.Texts.{text-long, text-short, text-ended, line-taken, line-refused, line-within}
-use Rattle.plan_text.proofs.Room.{Counted, counted-none, counted-more}
+use Rattle.plan_text.specs.declared.Line.the-variants.{Choice}
+use Rattle.plan_text.specs.declared.LineForm.the-variants.{Of}
+use Rattle.plan_text.specs.Steps.{lineAt, partLength}
+use Rattle.plan_text.proofs.Texts.{text-long, text-short, text-ended, line-read, line-taken, line-refused, line-within}
+use Rattle.plan_text.proofs.Faultless.{passed, next-type}
+use Rattle.plan_text.proofs.Room.{Counted, counted-none, counted-more, room}
 use Rattle.plan_text.proofs.read.Statement.{statement}
 use Rattle.plan_text.proofs.read.Tie as tie
 
 abbrev Inv-loop : tie.InvT-loop
-Inv-loop text units₀ bcet₀ wcet₀ predecessors₀ order₀ chosen₀ c₀ at₀ place₀ units bcet wcet predecessors order chosen c at place =
+Inv-loop text p₀ c₀ seen₀ at₀ place₀ p c seen at place =
+    let r : Reading = record { plan = p; constraint = c; seen = seen } in
     (at ≤ length text)
     × (place ≤ at + 1)
-    × (readText text ≡ readLines (split newline (drop at text)) place (gather units bcet wcet predecessors order chosen c))
-    × Counted (gather units bcet wcet predecessors order chosen c)
+    × (readText text ≡ readLines (split newline (drop at text)) place r)
+    × Counted r
 
 abbrev μ-loop : tie.MeasureT-loop
-μ-loop text units₀ bcet₀ wcet₀ predecessors₀ order₀ chosen₀ c₀ at₀ place₀ units bcet wcet predecessors order chosen c at place =
-    length text - at
+μ-loop text p₀ c₀ seen₀ at₀ place₀ p c seen at place = length text - at
 
 -- where a turn begins: the text, and what was read so far
 abbrev text : tie.At-loop Inv-loop μ-loop → List ℕ
-text l = l .before .before .before .before .args .text .now
+text l = l .before .before .before .before .before .args .text .now
 
 abbrev read : tie.At-loop Inv-loop μ-loop → Reading
-read l = gather (l .loop .units) (l .loop .bcet) (l .loop .wcet) (l .loop .predecessors) (l .loop .order) (l .loop .chosen) (l .loop .c)
+read l = record { plan = l .loop .p; constraint = l .loop .c; seen = l .loop .seen }
 
-abbrev turn : tie.After-line-fault Inv-loop μ-loop → tie.At-loop Inv-loop μ-loop
-turn f = f .before .before .before .before .before .before
+-- the line of the turn and where it ends
+abbrev turn : tie.After-line-at Inv-loop μ-loop → tie.At-loop Inv-loop μ-loop
+turn a = a .before .before .before
 
--- the line of the turn, where it ends, and its fault
-abbrev end : tie.After-line-fault Inv-loop μ-loop → ℕ
-end f = f .before .before .before .before .line-end .result
+ends : (a : tie.After-line-at Inv-loop μ-loop) → a .before .line-end .result
+    ≡ turn a .loop .at + partLength newline (drop (turn a .loop .at) (text (turn a)))
+ends a = a .before .line-end .ensures
+
+in-turn : (a : tie.After-line-at Inv-loop μ-loop) → turn a .loop .at < length (text (turn a))
+in-turn a = a .before .before .loop-test .taken
+
+-- a line that has one of the forms
+abbrev told : tie.After-line-fault Inv-loop μ-loop → tie.After-line-at Inv-loop μ-loop
+told f = f .before .before .before .before .before .before .before
 
 abbrev line : tie.After-line-fault Inv-loop μ-loop → Line
-line f = lineAt (text (turn f)) (turn f .loop .at) (end f)
+line f = f .before .before .before .before .before .line .given .0 .0
 
-ends : (f : tie.After-line-fault Inv-loop μ-loop) → end f ≡ turn f .loop .at + partLength newline (drop (turn f .loop .at) (text (turn f)))
-ends f = f .before .before .before .before .line-end .ensures
+form : (f : tie.After-line-fault Inv-loop μ-loop) → let a = told f in
+    lineAt (text (turn a)) (turn a .loop .at) (a .before .line-end .result) ≡ Of (line f)
+form f = sym (told f .line-at .ensures) ∙ f .before .before .before .before .before .line .given .1
 
-fault : (f : tie.After-line-fault Inv-loop μ-loop) → f .line-fault .result ≡ lineFault (read (turn f)) (line f)
-fault f =
-    let l = turn f .loop in
-    f .line-fault .ensures (l .units) (l .bcet) (l .order) (l .chosen) ∙ ap (lineFault (read (turn f))) (f .before .before .before .line-at .ensures)
+-- and no fault
+faultless : (e : tie.Else2 Inv-loop μ-loop) → lineFault (read (turn (told (e .before)))) (line (e .before)) ≡ 0
+faultless e = sym (e .before .line-fault .ensures) ∙ e .if2 .left
 
--- a line without a fault, and what it adds
-faultless : (c : tie.Else2 Inv-loop μ-loop) → lineFault (read (turn (c .before))) (line (c .before)) ≡ 0
-faultless c = sym (fault (c .before)) ∙ c .if2 .left
+range : (e : tie.Else2 Inv-loop μ-loop) → outOfRange (line (e .before)) ≡ false
+range e = passed (read (turn (told (e .before)))) _ (faultless e) .range
 
-in-turn : (f : tie.After-line-fault Inv-loop μ-loop) → turn f .loop .at < length (text (turn f))
-in-turn f = f .before .before .before .before .before .loop-test .taken
+roomy : (e : tie.Else2 Inv-loop μ-loop) (t k : ℕ) → line (e .before) ≡ Choice t k → turn (told (e .before)) .loop .c .len < mostTasks
+roomy e = let l = turn (told (e .before)) in room (read l) (faultless e) (l .loop .inv .3)
 
-within : (c : tie.Else2 Inv-loop μ-loop) → end (c .before) < length (text (turn (c .before)))
-within c =
-    let f = c .before in
-    let l = turn f in
-    line-within (text l) (l .loop .at) (end f) (l .loop .place) (read l) (ends f) (in-turn f) (faultless c)
+-- where the next line begins
+bounds : (e : tie.Else2 Inv-loop μ-loop) → let a = told (e .before) in let end = a .before .line-end .result in let l = turn a .loop in
+    (l .at ≤ end) × (end < length (text (turn a))) × (length (text (turn a)) ≤ mostBytes) × (l .place ≤ l .at + 1)
+bounds e =
+    let a = told (e .before) in
+    let l = turn a in (
+      omega (arith, ends a),
+      line-within (text l) _ _ 0 (read l) (ends a) (in-turn a) (line (e .before)) (form (e .before)),
+      l .before .before .before .if1 .left,
+      l .loop .inv .1,
+    )
 
-abbrev past : tie.After-line-done Inv-loop μ-loop → tie.Else2 Inv-loop μ-loop
-past c = c .before .before .before .before .before .before .before
+-- past what a line adds to the plan, and to the constraint
+abbrev past-plan : tie.After-predecessors Inv-loop μ-loop → tie.Else2 Inv-loop μ-loop
+past-plan q = q .before .before .before .before .before .before .before .before .before .before
 
-abbrev after : tie.After-line-done Inv-loop μ-loop → Reading
-after c =
-    let x = c .line-done .last in
-    gather (x .0) (x .1 .0) (x .1 .1 .0) (x .1 .1 .1 .0) (x .1 .1 .1 .1 .0) (x .1 .1 .1 .1 .1 .0) (c .line-done .result)
-
-done : (c : tie.After-line-done Inv-loop μ-loop) → after c ≡ lineDone (read (turn (past c .before))) (line (past c .before))
-done c =
-    let f = past c .before in
-    c .line-done .ensures ∙ ap (lineDone (read (turn f))) (f .before .before .before .line-at .ensures)
+abbrev past : tie.After-seen Inv-loop μ-loop → tie.Else2 Inv-loop μ-loop
+past c = past-plan (c .before .before .before .before .before .before)
 
 loop-holds : tie.Need-loop-holds Inv-loop μ-loop
 loop-holds c =
-    let z : gather _ _ _ _ _ _ (c .no-counts .result) ≡ nothing = ap (gather _ _ _ _ _ _) (c .no-counts .ensures) in
-    (search needs, search needs, text-short _ (c .before .if1 .left) ∙ ap (readLines _ 1) (sym z), subst Counted (sym z) counted-none)
+    rw (c .before .no-plan .ensures, c .no-constraint .ensures)
+    (search needs, search needs, text-short _ (c .before .before .if1 .left), counted-none)
 
 returns-2 : tie.Need-returns-2 Inv-loop μ-loop
 returns-2 c =
-    let f = c .before .before in
-    let l = turn f in
+    let a = c .before .before .before in
+    let l = turn a in
     c .refuse2 .ensures
-    ∙ sym (l .loop .inv .2 ∙ line-refused (text l) (l .loop .at) _ (l .loop .place) (read l) (ends f) (in-turn f) (fault f) (c .before .if2 .taken))
-
-line-done-requires : tie.Need-line-done-requires Inv-loop μ-loop
-line-done-requires c κs =
-    let e = c .before .before .before .before .before .before in
-    let l = turn (e .before) .loop in
-    (sym (e .before .line-fault .ensures (l .units) (l .bcet) (l .order) (l .chosen)) ∙ e .if2 .left, l .inv .3)
-
-loop-again : tie.Need-loop-again Inv-loop μ-loop
-loop-again c =
-    let e = past c in
-    let f = e .before in
-    let l = turn f in (
-      omega (arith, within e),
-      omega (arith, ends f),
-      l .loop .inv .2
-          ∙ line-taken (text l) (l .loop .at) _ (l .loop .place) (read l) (ends f) (in-turn f) (faultless e)
-          ∙ ap (readLines _ _) (sym (done c)),
-      subst Counted (sym (done c)) (counted-more (read l) _ (faultless e) (l .loop .inv .3)),
-    )
+    ∙ sym (l .loop .inv .2
+    ∙ line-read (text l) _ _ _ (read l) (ends a) (in-turn a) (sym (a .line-at .ensures) ∙ c .before .enum-told .given .1))
 
 returns-3 : tie.Need-returns-3 Inv-loop μ-loop
 returns-3 c =
-    let l = c .before .before in
-    c .accept .ensures ∙ sym (l .loop .inv .2 ∙ rw (drop-of-length-le (text l) (c .before .loop-test .left)) (text-ended (l .loop .place) (read l)))
+    let f = c .before .before in
+    let a = told f in
+    let l = turn a in
+    c .refuse3 .ensures
+    ∙ sym (l .loop .inv .2
+    ∙ line-refused (text l) _ _ _ (read l) (ends a) (in-turn a) (line f) (form f) (f .line-fault .ensures) (c .before .if2 .taken))
+
+loop-again : tie.Need-loop-again Inv-loop μ-loop
+unfolding lineDone
+loop-again c =
+    let h = c .before .before in
+    let o = h .before .before in
+    let q = o .before .before in
+    let w = q .before .before in
+    let b = w .before .before in
+    let t = b .before .before in
+    let u = t .before in
+    let y = u .before .before in
+    let e = past c in
+    let a = told (e .before) in
+    let l = turn a in
+    rw (
+      y .types .ensures,
+      u .units .ensures,
+      t .tasks .ensures,
+      b .best .ensures,
+      w .worst .ensures,
+      q .predecessors .ensures,
+      o .order .ensures,
+      h .chosen .ensures,
+      c .before .len .ensures,
+      c .seen .ensures,
+    ) (
+      omega (arith, bounds e),
+      omega (arith, bounds e),
+      l .loop .inv .2 ∙ line-taken (text l) _ _ _ (read l) (ends a) (in-turn a) (line (e .before)) (form (e .before)) (faultless e),
+      counted-more (read l) _ (faultless e) (l .loop .inv .3),
+    )
+
+returns-4 : tie.Need-returns-4 Inv-loop μ-loop
+returns-4 c =
+    let l = c .before in
+    sym (l .loop .inv .2 ∙ rw (drop-of-length-le (text l) (c .loop-test .left)) (text-ended (l .loop .place) (read l)))
 
 pub read-spec : {M : Type 1} → statement M
 read-spec =
     tie.close (tie.spec Inv-loop μ-loop (λ c κs. search needs)
-    (λ c. c .refuse .ensures ∙ sym (text-long _ (c .before .if1 .taken))) (λ c κs. search needs) loop-holds
-    (λ c κs. search needs) (λ c κs. omega (arith, c .line-end .ensures)) (λ c κs. search needs) (λ c κs. search needs)
-    returns-2 line-done-requires (λ c. omega (arith, within (past c))) (λ c. search needs)
-    (λ c. omega (arith, within (past c))) loop-again (λ c κs. search needs) returns-3)
+    (λ c. c .refuse .ensures ∙ sym (text-long _ (c .before .if1 .taken))) (λ c κs. search needs) (λ c κs. search needs)
+    loop-holds (λ c κs. search needs) (λ c κs. omega (arith, c .line-end .ensures)) (λ c. search needs)
+    (λ c. search needs) (λ c κs. search needs) returns-2 (λ c κs. search needs) (λ c κs. search needs) returns-3
+    (λ c κs. next-type _ (passed (read (turn (told (c .before)))) _ (faultless c))) (λ c κs. range (c .before .before))
+    (λ c κs. search needs) (λ c κs. range (c .before .before .before .before .before))
+    (λ c κs. range (c .before .before .before .before .before .before .before))
+    (λ c κs. range (c .before .before .before .before .before .before .before .before .before))
+    (λ c κs. roomy (past-plan (c .before))) (λ c κs. roomy (past-plan (c .before .before .before)))
+    (λ c κs. roomy (past-plan (c .before .before .before .before))) (λ c κs. search needs)
+    (λ c. omega (arith, bounds (past c))) (λ c. omega (arith, bounds (past c))) (λ c. omega (arith, bounds (past c)))
+    loop-again returns-4)

@@ -1,27 +1,27 @@
 -- `plan_text::form::form_of` meets its contract. Assumes nothing.
 use borrow.Author.Needs.{needs}
-use Rattle.plan_text.specs.Steps.{lineFrom}
+use Rattle.plan_text.specs.Form.{formOf}
 use Rattle.plan_text.proofs.form.form_of.Statement.{statement}
 use Rattle.plan_text.proofs.form.form_of.Tie as tie
 
 returns : tie.Need-returns
-unfolding lineFrom
+unfolding formOf
 returns c = rw (c .if1 .taken)
 
 returns-2 : tie.Need-returns-2
-unfolding lineFrom
+unfolding formOf
 returns-2 c = rw (c .before .if1 .left, c .if2 .taken)
 
 returns-3 : tie.Need-returns-3
-unfolding lineFrom
+unfolding formOf
 returns-3 c = rw (c .before .before .if1 .left, c .before .if2 .left, c .if3 .taken)
 
 returns-4 : tie.Need-returns-4
-unfolding lineFrom
+unfolding formOf
 returns-4 c = rw (c .before .before .before .if1 .left, c .before .before .if2 .left, c .before .if3 .left, c .if4 .taken)
 
 returns-5 : tie.Need-returns-5
-unfolding lineFrom
+unfolding formOf
 returns-5 c = rw (c .before .before .before .if1 .left, c .before .before .if2 .left, c .before .if3 .left, c .if4 .left)
 
 pub form-of-spec : {M : Type 1} → statement M

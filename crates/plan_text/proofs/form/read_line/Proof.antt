@@ -4,7 +4,7 @@ use mathlib.Core.List.{List}
 use Prim.Native.Nat.{ℕ}
 use borrow.Author.Needs.{needs}
 use Rattle.plan_text.specs.Form.{tab, split}
-use Rattle.plan_text.specs.Steps.{fieldsOf, lineFrom}
+use Rattle.plan_text.specs.Steps.{fieldsOf, formFrom}
 use Rattle.plan_text.proofs.Parts.{from-on}
 use Rattle.plan_text.proofs.Lines.{line-short, line-untabbed, line-tabbed}
 use Rattle.plan_text.proofs.form.read_line.Statement.{statement}
@@ -15,7 +15,7 @@ returns-3 c =
     let k = c .before .before .before .before in
     let s = k .before .before .before .before .args .s .now in
     c .form-of .ensures
-    ∙ ap (lineFrom _) (c .before .read-fields .ensures ∙ ap (λ (x : List ℕ). fieldsOf (split tab x)) (from-on s 2))
+    ∙ ap (formFrom _) (c .before .read-fields .ensures ∙ ap (λ (x : List ℕ). fieldsOf (split tab x)) (from-on s 2))
     ∙ sym (line-tabbed s (k .before .before .if1 .left) (k .if2 .left))
 
 pub read-line-spec : {M : Type 1} → statement M

@@ -1,0 +1,10 @@
+-- `plan_text::fill::listed` meets its contract. Assumes nothing.
+use borrow.Author.Needs.{needs}
+use Rattle.plan_text.proofs.Told.{other}
+use Rattle.plan_text.proofs.fill.listed.Statement.{statement}
+use Rattle.plan_text.proofs.fill.listed.Tie as tie
+
+pub listed-spec : {M : Type 1} → statement M
+listed-spec =
+    tie.close (tie.spec (λ c. search needs) (λ c. search needs) (λ c κs. search needs)
+    (λ c. rw (c .inserted .ensures, c .before .before .line .given .1)) (λ c. rw (other 3 _ (c .match .keys2))))

@@ -1,0 +1,11 @@
+-- `plan_text::fill::types` meets its contract. Assumes nothing.
+use native.Mathlib.Omega.{arith}
+use borrow.Author.Needs.{needs}
+use Rattle.plan_text.proofs.Told.{other}
+use Rattle.plan_text.proofs.fill.types.Statement.{statement}
+use Rattle.plan_text.proofs.fill.types.Tie as tie
+
+pub types-spec : {M : Type 1} → statement M
+types-spec =
+    tie.close (tie.spec (λ c. search needs) (λ c. omega (arith, c .before .before .pre _ _ (c .enum-told .given .1)))
+    (λ c. rw (c .enum-told .given .1)) (λ c. rw (other 0 _ (c .match .keys2))))

@@ -1,0 +1,129 @@
+// The faults 3 to 7 of a line.
+ghost use mathlib.Core.Path.{_≡_};
+ghost use mathlib.Core.Bool.{cond};
+ghost use Rattle.plan_text.specs.Reading.{atOdds, firstFault, isTask, isTime, isType, kindOf, outOfRange, repeated, unknown};
+use crate::Line;
+use crate::Seen;
+use plan::LONGEST_TIME;
+use plan::MOST_PAIRS;
+use plan::MOST_TASKS;
+use plan::MOST_TYPES;
+use plan::MOST_UNITS;
+
+pub fn kind_of(line: Line) -> u32
+    ensures { λ r. ⌜ r ≡ kindOf line ⌝ }
+{
+    match line {
+        Line::Units(_, _) => 0,
+        Line::Times(_, _, _, _) => 1,
+        Line::Arrow(_, _) => 2,
+        Line::Choice(_, _) => 3,
+    }
+}
+
+fn is_type(k: u32) -> bool
+    ensures { λ r. ⌜ r ≡ isType k ⌝ }
+{
+    (k as usize) < MOST_TYPES
+}
+
+fn is_task(t: u32) -> bool
+    ensures { λ r. ⌜ r ≡ isTask t ⌝ }
+{
+    (t as usize) < MOST_TASKS
+}
+
+fn is_time(x: u32) -> bool
+    ensures { λ r. ⌜ r ≡ isTime x ⌝ }
+{
+    (1 <= x) & (x <= LONGEST_TIME)
+}
+
+fn out_of_range(line: Line) -> bool
+    ensures { λ r. ⌜ r ≡ outOfRange line ⌝ }
+{
+    match line {
+        Line::Units(k, n) => !(is_type(k) & ((1 <= n) & (n <= MOST_UNITS))),
+        Line::Times(t, k, b, w) => !(is_task(t) & (is_type(k) & (is_time(b) & is_time(w)))),
+        Line::Arrow(from, to) => !(is_task(from) & is_task(to)),
+        Line::Choice(t, k) => !(is_task(t) & is_type(k)),
+    }
+}
+
+fn at_odds(line: Line) -> bool
+    ensures { λ r. ⌜ r ≡ atOdds line ⌝ }
+{
+    match line {
+        Line::Units(_, _) => false,
+        Line::Times(_, _, b, w) => w < b,
+        Line::Arrow(from, to) => from == to,
+        Line::Choice(_, _) => false,
+    }
+}
+
+fn unknown(types: usize, timed: u64, line: Line) -> bool
+    ensures { λ r. ⌜ r ≡ unknown types timed line ⌝ }
+{
+    match line {
+        Line::Units(k, _) => (k as usize) != types,
+        Line::Times(_, k, _, _) => types <= (k as usize),
+        Line::Arrow(from, to) => {
+            !(task_set::contains(timed, from as usize) & task_set::contains(timed, to as usize))
+        }
+        Line::Choice(t, _) => !task_set::contains(timed, t as usize),
+    }
+}
+
+fn repeated<'a>(
+    wcet: &'a [u32; MOST_PAIRS],
+    predecessors: &'a [u64; MOST_TASKS],
+    listed: u64,
+    line: Line,
+) -> bool
+    ensures { λ r. ⌜ r ≡ repeated (now (wcet .entry)) (now (predecessors .entry)) listed line ⌝ }
+{
+    match line {
+        Line::Units(_, _) => false,
+        Line::Times(t, k, _, _) => plan::time_of(wcet, t as usize, k as usize) != 0,
+        Line::Arrow(from, to) => {
+            let before = plan::predecessors_of(predecessors, to as usize);
+            task_set::contains(before, from as usize)
+        }
+        Line::Choice(t, _) => task_set::contains(listed, t as usize),
+    }
+}
+
+fn unless(bad: bool, number: u32, rest: u32) -> u32
+    ensures { λ r. ⌜ r ≡ cond bad number rest ⌝ }
+{
+    if bad {
+        return number;
+    }
+    rest
+}
+
+// The first fault of a line, and 0 where it has none.
+pub fn line_fault<'a>(
+    types: usize,
+    wcet: &'a [u32; MOST_PAIRS],
+    predecessors: &'a [u64; MOST_TASKS],
+    seen: Seen,
+    line: Line,
+) -> u32
+    ensures { λ r. ⌜ r ≡ firstFault types (now (wcet .entry)) (now (predecessors .entry)) seen line ⌝ }
+{
+    let outside = out_of_range(line);
+    let odd = at_odds(line);
+    let late = kind_of(line) < seen.kind;
+    let absent = unknown(types, seen.timed, line);
+    let again = repeated(wcet, predecessors, seen.listed, line);
+    unless(
+        outside,
+        3,
+        unless(
+            odd,
+            4,
+            unless(late, 5, unless(absent, 6, unless(again, 7, 0))),
+        ),
+    )
+}
