@@ -12,16 +12,16 @@ use lib.Seq.{take-suc, length-take-le, getD-take}
 use borrow.Author.Tests.{eq-eqb, ne-eqb, le-leb, lt-leb, leb-true, ltb-true, ltb-false}
 use Rattle.task_set.proofs.Truth.{clash, by-test, off, and-left, and-right, and-both}
 use Rattle.plan_text.specs.declared.form.Field.the-variants.{Number, NoField}
-use Rattle.plan_text.specs.Form.{tab, isDigit, digitValue, mostDigits, allDigits, isField, valueFrom}
+use Rattle.plan_text.specs.Form.{tab, isDigit, digitValue, mostDigits, every, isField, valueFrom}
 use Rattle.plan_text.specs.Steps.{partLength, firstPart, Digits, fieldOf}
 use Rattle.plan_text.proofs.Parts.{part-length}
 
 -- ---- one digit more
 
-all-last : (s : List ℕ) (b : ℕ) → allDigits (s ++ (b ∷ [])) ≡ allDigits s && isDigit b
-unfolding allDigits
+all-last : (s : List ℕ) (b : ℕ) → every isDigit (s ++ (b ∷ [])) ≡ every isDigit s && isDigit b
+unfolding every
 all-last [] b = and-true (isDigit b)
-all-last (a ∷ s) b = ap (_&&_ (isDigit a)) (all-last s b) ∙ sym (and-assoc (isDigit a) (allDigits s) (isDigit b))
+all-last (a ∷ s) b = ap (_&&_ (isDigit a)) (all-last s b) ∙ sym (and-assoc (isDigit a) (every isDigit s) (isDigit b))
 
 value-last : (v : ℕ) (s : List ℕ) (b : ℕ) → valueFrom v (s ++ (b ∷ [])) ≡ valueFrom v s * 10 + digitValue b
 unfolding valueFrom
@@ -32,7 +32,7 @@ pub digit-small : (b : ℕ) → isDigit b ≡ true → digitValue b ≤ 9
 digit-small b e = omega (arith, leb-true b 57 (and-right (leb 48 b) (leb b 57) e))
 
 pub digits-none : (s : List ℕ) → Digits s 0 0
-unfolding allDigits valueFrom
+unfolding every valueFrom
 digits-none s = record { within = zero-le; few = zero-le; digits = refl; value = refl; small = lit< tt }
 
 module _ {s : List ℕ} {n v : ℕ} (d : Digits s n v) where
@@ -46,7 +46,7 @@ module _ {s : List ℕ} {n v : ℕ} (d : Digits s n v) where
       record {
         within = omega arith;
         few = omega (arith, d .few);
-        digits = ap allDigits t ∙ all-last (take n s) (getD s n 0) ∙ and-both (d .digits) e;
+        digits = ap (every isDigit) t ∙ all-last (take n s) (getD s n 0) ∙ and-both (d .digits) e;
         value = ap (λ (x : ℕ). x * 10 + digitValue (getD s n 0)) (d .value) ∙ sym (ap (valueFrom 0) t ∙ value-last 0 (take n s) (getD s n 0));
         small = rw (add-one n) (omega (arith, d .small, digit-small (getD s n 0) e, pow-succ' 10 n));
       }
@@ -74,18 +74,18 @@ module _ {s : List ℕ} {n v : ℕ} (d : Digits s n v) where
 
 -- ---- what is no field
 
-digit-at : (s : List ℕ) (i : ℕ) → i < length s → allDigits s ≡ true → isDigit (getD s i 0) ≡ true
-unfolding allDigits
+digit-at : (s : List ℕ) (i : ℕ) → i < length s → every isDigit s ≡ true → isDigit (getD s i 0) ≡ true
+unfolding every
 digit-at [] i l e = absurd (not-suc-le-zero l)
-digit-at (b ∷ s) zero l e = and-left (isDigit b) (allDigits s) e
-digit-at (b ∷ s) (suc i) l e = digit-at s i (le-of-suc-le-suc l) (and-right (isDigit b) (allDigits s) e)
+digit-at (b ∷ s) zero l e = and-left (isDigit b) (every isDigit s) e
+digit-at (b ∷ s) (suc i) l e = digit-at s i (le-of-suc-le-suc l) (and-right (isDigit b) (every isDigit s) e)
 
 module _ (s : List ℕ) (n : ℕ) (l : n < partLength tab s) where
   pub field-odd : isDigit (getD s n 0) ≡ false → fieldOf (firstPart tab s) ≡ NoField
   unfolding fieldOf isField
   field-odd e =
       let same : getD (firstPart tab s) n 0 ≡ getD s n 0 = getD-take (partLength tab s) s n 0 l in
-      let f : allDigits (firstPart tab s) ≡ false =
+      let f : every isDigit (firstPart tab s) ≡ false =
       off _ (λ a. clash (sym (ap isDigit same) ∙ digit-at (firstPart tab s) n (rw (part-length tab s) l) a) e) in
       simp (f, and-false)
 

@@ -10,7 +10,7 @@ use borrow.Author.Tests.{eq-eqb, ne-eqb, eqb-true, lt-ltb, le-ltb}
 use Rattle.task_set.proofs.Truth.{clash, by-test, and-left, and-right}
 use Rattle.plan_text.specs.declared.LineForm.the-variants.{NoForm}
 use Rattle.plan_text.specs.declared.form.Field.the-variants.{Number, NoField}
-use Rattle.plan_text.specs.Form.{tab, split, isField, valueFrom, allFields, formOf, lineOfParts, lineOf}
+use Rattle.plan_text.specs.Form.{tab, split, isField, valueFrom, every, formOf, lineOfParts, lineOf}
 use Rattle.plan_text.specs.Steps.{partLength, firstPart, fieldOf, mostFields, noFields, fieldsFrom, fieldsOf, formFrom}
 use Rattle.plan_text.proofs.Parts.{part-length, split-last, split-more, split-first}
 
@@ -70,13 +70,13 @@ module _ (t : List ℕ) (n : ℕ) (vs : List ℕ) where
 -- ---- the line
 
 -- a part that is no field leaves no fields
-fields-off : (parts : List (List ℕ)) (n : ℕ) (vs : List ℕ) → allFields parts ≡ false → fieldsFrom parts n vs ≡ noFields
-unfolding allFields fieldsFrom
+fields-off : (parts : List (List ℕ)) (n : ℕ) (vs : List ℕ) → every isField parts ≡ false → fieldsFrom parts n vs ≡ noFields
+unfolding every fieldsFrom
 fields-off [] n vs e = absurd (clash refl e)
 fields-off (part ∷ parts) n vs e = go (ltb n mostFields) (isField part) e (fields-off parts (n + 1) (set vs n (valueFrom 0 part)))
   where
-    go : (x y : Bool) → y && allFields parts ≡ false
-        → (allFields parts ≡ false → fieldsFrom parts (n + 1) (set vs n (valueFrom 0 part)) ≡ noFields)
+    go : (x y : Bool) → y && every isField parts ≡ false
+        → (every isField parts ≡ false → fieldsFrom parts (n + 1) (set vs n (valueFrom 0 part)) ≡ noFields)
         → cond (x && y) (fieldsFrom parts (n + 1) (set vs n (valueFrom 0 part))) noFields ≡ noFields
     go false y e ih = refl
     go true false e ih = refl
@@ -96,8 +96,8 @@ module _ (letter : ℕ) where
   unfolding formOf
   too-many n v l = simp (ne-eqb n 2 (λ e. omega arith), ne-eqb n 4 (λ e. omega arith), and-false)
 
-  all-forms : (parts : List (List ℕ)) → allFields parts ≡ true → formOf letter (length parts) (valueAt parts) ≡ formFrom letter (fieldsOf parts)
-  unfolding allFields fieldsFrom formOf valueFrom
+  all-forms : (parts : List (List ℕ)) → every isField parts ≡ true → formOf letter (length parts) (valueAt parts) ≡ formFrom letter (fieldsOf parts)
+  unfolding every fieldsFrom formOf valueFrom
   all-forms [] e = refl
   all-forms (p ∷ []) e = rw (and-left (isField p) _ e)
   all-forms (p ∷ q ∷ []) e = rw (and-left (isField p) _ e, and-left (isField q) _ (and-right (isField p) _ e))
@@ -115,9 +115,9 @@ module _ (letter : ℕ) where
       go [] = refl
       go (t ∷ rest) = too-many (length (p ∷ q ∷ r ∷ s ∷ t ∷ rest)) (valueAt (p ∷ q ∷ r ∷ s ∷ t ∷ rest)) (omega arith)
 
-  forms : (parts : List (List ℕ)) → cond (allFields parts) (formOf letter (length parts) (valueAt parts)) NoForm ≡ formFrom letter (fieldsOf parts)
+  forms : (parts : List (List ℕ)) → cond (every isField parts) (formOf letter (length parts) (valueAt parts)) NoForm ≡ formFrom letter (fieldsOf parts)
   forms parts =
-      by-test (allFields parts) (λ e. rw e (all-forms parts e))
+      by-test (every isField parts) (λ e. rw e (all-forms parts e))
       (λ e. rw (e, fields-off parts 0 (noFields .values) e) (sym (no-form _)))
 
 -- a line with no one letter before its first tab
@@ -125,7 +125,7 @@ no-letter : (letter : List ℕ) (fields : List (List ℕ)) → (length letter �
 no-letter letter fields f = rw (ne-eqb (length letter) 1 f)
 
 pub line-short : (s : List ℕ) → length s < 2 → lineOf s ≡ NoForm
-unfolding lineOf split allFields isField
+unfolding lineOf split every isField
 line-short [] l = refl
 line-short (b ∷ []) l = go (eqb b tab)
   where

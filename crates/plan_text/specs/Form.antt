@@ -35,30 +35,28 @@ unfoldable pub split : ℕ → List ℕ → List (List ℕ)
 split separator [] = [] ∷ []
 split separator (b ∷ s) = cond (eqb b separator) ([] ∷ split separator s) (prepend b (split separator s))
 
+-- each of a list passes
+unfoldable pub every : {A : Type 0} → (A → Bool) → List A → Bool
+every passes [] = true
+every passes (a ∷ l) = passes a && every passes l
+
 -- ---- a field: "1 to 5 digits, no sign, no leading zero except for 0 itself"
 
 abbrev pub mostDigits : ℕ
 mostDigits = 5
 
-unfoldable pub allDigits : List ℕ → Bool
-allDigits [] = true
-allDigits (b ∷ s) = isDigit b && allDigits s
-
 unfoldable pub isField : List ℕ → Bool
-isField s = between 1 (length s) mostDigits && (allDigits s && (eqb (length s) 1 || not (eqb (getD s 0 0) 48)))
+isField s = between 1 (length s) mostDigits && (every isDigit s && (eqb (length s) 1 || not (eqb (getD s 0 0) 48)))
 
 -- the decimal number of v and the digits that follow it
 unfoldable pub valueFrom : ℕ → List ℕ → ℕ
 valueFrom v [] = v
 valueFrom v (b ∷ s) = valueFrom (v * 10 + digitValue b) s
 
-unfoldable pub allFields : List (List ℕ) → Bool
-allFields [] = true
-allFields (s ∷ rest) = isField s && allFields rest
-
 -- ---- a line: "a letter, then decimal fields, each after one tab"
 
--- U, type, count of units; T, task, type, best, worst; A, from, to; C, task, type: by the letter, how many fields, and their values
+-- U, type, count of units; T, task, type, best, worst; A, from, to; C, task, type:
+-- by the letter, how many fields there are, and their values
 unfoldable pub formOf : ℕ → ℕ → (ℕ → ℕ) → LineForm
 formOf letter n v =
     cond (eqb letter 85 && eqb n 2) (Of (Units (v 0) (v 1)))
@@ -71,7 +69,7 @@ abbrev pub lineOfParts : List (List ℕ) → LineForm
 lineOfParts [] = NoForm
 lineOfParts (letter ∷ fields) =
     let form = formOf (getD letter 0 0) (length fields) (λ i. valueFrom 0 (getD fields i [])) in
-    cond (eqb (length letter) 1 && allFields fields) form NoForm
+    cond (eqb (length letter) 1 && every isField fields) form NoForm
 
 unfoldable pub lineOf : List ℕ → LineForm
 lineOf s = lineOfParts (split tab s)

@@ -1,4 +1,4 @@
--- What one line does to what was read so far (document 01, "The plan text", and "When an operation says no", Reading). Assumes nothing.
+-- What one line does to what was read so far (document 01, "The plan text", and "When an operation says no"). Assumes nothing.
 use mathlib.Core.Bool.{Bool, false, cond, _&&_, not}
 use mathlib.Core.List.{List, [], _∷_}
 use Prim.Native.Nat.{ℕ, _+_, max}
@@ -30,12 +30,12 @@ kindOf (Times t k b w) = 1
 kindOf (Arrow from to) = 2
 kindOf (Choice t k) = 3
 
--- the numbers of a line, in the order of its fields
-abbrev pub numbers : Line → List ℕ
-numbers (Units k n) = k ∷ n ∷ []
-numbers (Times t k b w) = t ∷ k ∷ b ∷ w ∷ []
-numbers (Arrow from to) = from ∷ to ∷ []
-numbers (Choice t k) = t ∷ k ∷ []
+-- number i of a line, from 0 on, in the order of its fields
+abbrev pub number : Line → ℕ → ℕ
+number (Units k n) i = getD (k ∷ n ∷ []) i 0
+number (Times t k b w) i = getD (t ∷ k ∷ b ∷ w ∷ []) i 0
+number (Arrow from to) i = getD (from ∷ to ∷ []) i 0
+number (Choice t k) i = getD (t ∷ k ∷ []) i 0
 
 -- ---- the faults of a line
 
@@ -90,68 +90,41 @@ firstFault types wcet predecessors seen line =
 abbrev pub lineFault : Reading → Line → ℕ
 lineFault r = firstFault (r .plan .types) (r .plan .wcet) (r .plan .predecessors) (r .seen)
 
--- ---- what a line without a fault adds: each thing by the kind of line that adds to it, and that line's numbers
+-- ---- what a line without a fault adds: to each thing that is kept, by the one kind of line that adds to it
 
 module _ (line : Line) where
   abbrev pub isKind : ℕ → Bool
   isKind kind = eqb (kindOf line) kind
 
-  abbrev pub number : ℕ → ℕ
-  number i = getD (numbers line) i 0
+  -- how many lines of a kind there are, the tasks that such lines name first, and a list with an entry set by such a line
+  abbrev pub counted : ℕ → ℕ → ℕ
+  counted kind n = cond (isKind kind) (n + 1) n
 
-  abbrev pub typesWith : ℕ → ℕ
-  typesWith types = cond (isKind 0) (types + 1) types
+  abbrev pub named : ℕ → ℕ → ℕ
+  named kind tasks = cond (isKind kind) (insert tasks (number line 0)) tasks
 
-  abbrev pub unitsWith : List ℕ → List ℕ
-  unitsWith units = cond (isKind 0) (set units (number 0) (number 1)) units
+  abbrev pub stored : ℕ → List ℕ → ℕ → ℕ → List ℕ
+  stored kind l i v = cond (isKind kind) (set l i v) l
 
-  -- "The plan's tasks number one more than the greatest task here"
-  abbrev pub tasksWith : ℕ → ℕ
-  tasksWith tasks = cond (isKind 1) (max tasks (number 0 + 1)) tasks
-
-  -- the best times have number 2, the worst times number 3
-  abbrev pub timesWith : ℕ → List ℕ → List ℕ
-  timesWith i times = cond (isKind 1) (set times (pairIndex (number 0) (number 1)) (number i)) times
-
-  -- "`to` waits for `from`"
-  abbrev pub predecessorsWith : List ℕ → List ℕ
-  predecessorsWith before =
-      cond (isKind 2) (set before (number 1) (insert (predecessorsOf before (number 1)) (number 0))) before
-
-  -- "the constraint, in the order of its lines": the tasks are number 0, the types number 1
-  abbrev pub lenWith : ℕ → ℕ
-  lenWith len = cond (isKind 3) (len + 1) len
-
-  abbrev pub entriesWith : ℕ → ℕ → List ℕ → List ℕ
-  entriesWith i len entries = cond (isKind 3) (set entries len (number i)) entries
-
-  abbrev pub timedWith : ℕ → ℕ
-  timedWith timed = cond (isKind 1) (insert timed (number 0)) timed
-
-  abbrev pub listedWith : ℕ → ℕ
-  listedWith listed = cond (isKind 3) (insert listed (number 0)) listed
-
-  abbrev pub seenWith : Seen → Seen
-  seenWith seen =
-      record { kind = kindOf line; timed = timedWith (seen .timed); listed = listedWith (seen .listed) }
-
+-- "The plan's tasks number one more than the greatest task here"; "`to` waits for `from`"; "the constraint, in the order of its lines"
 unfoldable pub lineDone : Reading → Line → Reading
 lineDone r line =
+    let v = number line in
     let p = r .plan in
     let c = r .constraint in
     record {
       plan = record {
-        types = typesWith line (p .types);
-        units = unitsWith line (p .units);
-        tasks = tasksWith line (p .tasks);
-        bcet = timesWith line 2 (p .bcet);
-        wcet = timesWith line 3 (p .wcet);
-        predecessors = predecessorsWith line (p .predecessors);
+        types = counted line 0 (p .types);
+        units = stored line 0 (p .units) (v 0) (v 1);
+        tasks = cond (isKind line 1) (max (p .tasks) (v 0 + 1)) (p .tasks);
+        bcet = stored line 1 (p .bcet) (pairIndex (v 0) (v 1)) (v 2);
+        wcet = stored line 1 (p .wcet) (pairIndex (v 0) (v 1)) (v 3);
+        predecessors = stored line 2 (p .predecessors) (v 1) (insert (predecessorsOf (p .predecessors) (v 1)) (v 0));
       };
       constraint = record {
-        len = lenWith line (c .len);
-        order = entriesWith line 0 (c .len) (c .order);
-        chosen = entriesWith line 1 (c .len) (c .chosen);
+        len = counted line 3 (c .len);
+        order = stored line 3 (c .order) (c .len) (v 0);
+        chosen = stored line 3 (c .chosen) (c .len) (v 1);
       };
-      seen = seenWith line (r .seen);
+      seen = record { kind = kindOf line; timed = named line 1 (r .seen .timed); listed = named line 3 (r .seen .listed) };
     }

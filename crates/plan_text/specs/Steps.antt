@@ -10,7 +10,7 @@ use Rattle.plan_text.specs.declared.LineForm.the-variants.{NoForm}
 use Rattle.plan_text.specs.declared.form.Field.{Field}
 use Rattle.plan_text.specs.declared.form.Field.the-variants.{Number, NoField}
 use Rattle.plan_text.specs.declared.form.Fields.{Fields}
-use Rattle.plan_text.specs.Form.{mostDigits, allDigits, isField, valueFrom, formOf, lineOf}
+use Rattle.plan_text.specs.Form.{mostDigits, isDigit, every, isField, valueFrom, formOf, lineOf}
 
 -- ---- the first part
 
@@ -28,7 +28,7 @@ firstPart separator s = take (partLength separator s) s
 pub record Digits (s : List ℕ) (n v : ℕ) : Type 0 where
   pub within : n ≤ length s
   pub few : n ≤ mostDigits
-  pub digits : allDigits (take n s) ≡ true
+  pub digits : every isDigit (take n s) ≡ true
   pub value : v ≡ valueFrom 0 (take n s)
   pub small : v < 10 ^ n
 
