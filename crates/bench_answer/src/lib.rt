@@ -1,10 +1,11 @@
 // The answer to a plan text: its timetable of worst times or the line of its refusal (document 01, "Timetable and program").
 ghost use mathlib.Core.Path.{_≡_};
 ghost use lib.ListN.{length};
-ghost use Rattle.bench_answer.specs.Answer.{answerText, atStart};
+ghost use Rattle.plan.specs.Buffers.{atStart};
+ghost use Rattle.bench_answer.specs.Answer.{answerText};
 
 // The longest timetable; a refusal's line is shorter.
-pub const MOST_ANSWER: usize = 1306;
+pub const MOST_ANSWER: usize = timetable::LONGEST_TIMETABLE;
 
 // Writes the answer to the text at the start of `out`, and answers its length.
 pub fn answer(text: &[u8], out: &mut [u8; MOST_ANSWER]) -> usize

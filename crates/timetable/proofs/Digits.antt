@@ -7,13 +7,13 @@ use borrow.Author.Tests.{lt-ltb, le-ltb, ltb-true, ltb-false}
 use lib.Dec.{ltb}
 use lib.ListN.{length, length-append}
 use Rattle.task_set.proofs.Truth.{by-test}
-use Rattle.timetable.specs.Decimal.{digitByte, decimalUpto, decimal}
+use Rattle.timetable.specs.Decimal.{decimalUpto, decimal}
 
-upto-one : (n x : ℕ) → x < 10 → decimalUpto (suc n) x ≡ digitByte x ∷ []
+upto-one : (n x : ℕ) → x < 10 → decimalUpto (suc n) x ≡ (48 + x) ∷ []
 unfolding decimalUpto
 upto-one n x l = rw (lt-ltb x 10 l)
 
-upto-more : (n x : ℕ) → 10 ≤ x → decimalUpto (suc n) x ≡ decimalUpto n (x / 10) ++ digitByte (x % 10) ∷ []
+upto-more : (n x : ℕ) → 10 ≤ x → decimalUpto (suc n) x ≡ decimalUpto n (x / 10) ++ (48 + x % 10) ∷ []
 unfolding decimalUpto
 upto-more n x l = rw (le-ltb x 10 l)
 
@@ -24,17 +24,17 @@ upto-enough (suc n) x l =
     by-test (ltb x 10) (λ e. upto-one (suc n) x (ltb-true x 10 e) ∙ sym (upto-one (suc (suc n)) x (ltb-true x 10 e)))
     (λ e. let m : 10 ≤ x = ltb-false x 10 e in
     upto-more (suc n) x m
-    ∙ ap (λ d. d ++ digitByte (x % 10) ∷ []) (upto-enough n (x / 10) (omega arith)) ∙ sym (upto-more (suc (suc n)) x m))
+    ∙ ap (λ d. d ++ (48 + x % 10) ∷ []) (upto-enough n (x / 10) (omega arith)) ∙ sym (upto-more (suc (suc n)) x m))
 
 -- ---- a number's digits: its only one; or those of a tenth of it, and the last
 
-pub decimal-one : (x : ℕ) → x < 10 → decimal x ≡ digitByte x ∷ []
+pub decimal-one : (x : ℕ) → x < 10 → decimal x ≡ (48 + x) ∷ []
 unfolding decimal
 decimal-one = upto-one 19
 
-pub decimal-more : (x : ℕ) → 10 ≤ x → x < 10 ^ 20 → decimal x ≡ decimal (x / 10) ++ digitByte (x % 10) ∷ []
+pub decimal-more : (x : ℕ) → 10 ≤ x → x < 10 ^ 20 → decimal x ≡ decimal (x / 10) ++ (48 + x % 10) ∷ []
 unfolding decimal
-decimal-more x l h = upto-more 19 x l ∙ ap (λ d. d ++ digitByte (x % 10) ∷ []) (upto-enough 18 (x / 10) (omega arith))
+decimal-more x l h = upto-more 19 x l ∙ ap (λ d. d ++ (48 + x % 10) ∷ []) (upto-enough 18 (x / 10) (omega arith))
 
 -- ---- how many there are
 
@@ -52,7 +52,7 @@ pub length-one : (x : ℕ) → x < 10 → length (decimal x) ≡ 1
 length-one x l = ap length (decimal-one x l)
 
 pub length-more : (x : ℕ) → 10 ≤ x → x < 10 ^ 20 → length (decimal x) ≡ length (decimal (x / 10)) + 1
-length-more x l h = ap length (decimal-more x l h) ∙ length-append (decimal (x / 10)) (digitByte (x % 10) ∷ [])
+length-more x l h = ap length (decimal-more x l h) ∙ length-append (decimal (x / 10)) ((48 + x % 10) ∷ [])
 
 upto-some : (n x : ℕ) → 1 ≤ length (decimalUpto (suc n) x)
 unfolding decimalUpto

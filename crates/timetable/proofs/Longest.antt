@@ -1,7 +1,7 @@
--- No accepted call needs more than 1,306 bytes. Assumes nothing.
-use mathlib.Core.Path.{_≡_, refl, ap, _∙_}
+-- No accepted call needs more bytes than the longest timetable has. Assumes nothing.
+use mathlib.Core.Path.{_≡_, refl, ap}
 use mathlib.Core.Bool.{false}
-use mathlib.Core.List.{List}
+use mathlib.Core.List.{List, [], _∷_}
 use Prim.Native.Nat.{ℕ, zero, suc, _+_, _*_, _≤_, _<_, zero-le}
 use native.Mathlib.Nat.{le-step, lt-suc-self, lt-trans}
 use native.Mathlib.Omega.{arith}
@@ -11,26 +11,25 @@ use lib.ListN.{length, length-append}
 use Rattle.task_set.specs.Bounded.{first}
 use Rattle.task_set.proofs.Truth.{by-test, and-left, and-right}
 use Rattle.task_set.proofs.Search.{first-none}
+use Rattle.task_set.proofs.Tables.{getD-tabulate}
 use Rattle.plan.specs.declared.Plan.{Plan}
 use Rattle.plan.specs.declared.Constraint.{Constraint}
 use Rattle.plan.specs.Rules.{mostTasks, longestTime}
-use Rattle.plan.specs.Refusals.{entryAt, unlessAt, verdict}
-use Rattle.plan.proofs.Accepted.{Accepted, accepted}
+use Rattle.plan.specs.Refusals.{entryAt, unlessAt}
+use Rattle.plan.proofs.Accepted.{Accepted}
 use Rattle.dispatch_theory.specs.Sums.{sum}
 use Rattle.dispatch_theory.proofs.Sums.{sum-mono, sum-le}
 use Rattle.dispatch_theory.proofs.Greedy.{bound}
-use Rattle.runs.specs.Running.{horizon, allowed, entries, best, worst, orZero, ended, response}
+use Rattle.runs.specs.Running.{best, worst, orZero, ended, response}
 use Rattle.runs.proofs.Positions.{position-entry, task-times, by-position}
-use Rattle.runs.proofs.Orders.{durations, startsOf, entryOf, lawful, greedy}
+use Rattle.runs.proofs.Closed.{durations, startsOf, lawful, greedy}
 use Rattle.runs.proofs.Response.{ended-start, ended-finish, response-sum}
-use Rattle.simulation.specs.Simulated.{timeIn, outside, timesVerdict, simulationVerdict}
+use Rattle.simulation.specs.Simulated.{timeIn, outside, timesVerdict, ran, simulated, worstCase}
 use Rattle.timetable.specs.Decimal.{decimalUpto, decimal}
-use Rattle.timetable.specs.Table.{row, rows, textOf, worstText}
-use Rattle.timetable.specs.Steps.{lastLine}
+use Rattle.timetable.specs.Table.{textBy, textOf, longestTimetable}
 use Rattle.timetable.proofs.Digits.{length-one, decimal-mono}
-use Rattle.timetable.proofs.Text.{line-length, last-length, length-joined}
-use Rattle.timetable.proofs.Rows.{rows-joined}
-use Rattle.timetable.proofs.Ran.{first-taken, second-taken}
+use Rattle.timetable.proofs.Text.{line-length, lineAt, length-lines}
+use Rattle.timetable.proofs.Ran.{simulated-taken, times-taken, simulated-runs, worst-taken, worst-runs}
 
 sum-apart : (n : ℕ) (f g h : ℕ → ℕ) → ((i : ℕ) → i < n → f i ≤ g i + h i) → sum n f ≤ sum n g + sum n h
 unfolding sum
@@ -45,30 +44,44 @@ abbrev beside : ℕ → ℕ
 beside i = digits (i * longestTime) + digits (suc i * longestTime) + 5
 
 -- at 64 positions
-whole : sum mostTasks digits + sum mostTasks beside + (digits (mostTasks * longestTime) + 3) ≡ 1306
+whole : sum mostTasks digits + sum mostTasks beside + (digits (mostTasks * longestTime) + 3) ≡ longestTimetable
 unfolding sum decimal decimalUpto
 whole = refl
 
 module _ (p : Plan) (c : Constraint) (a : Accepted p c) (d : ℕ → ℕ)
-    (positive : (t : ℕ) → t < p .tasks → 1 ≤ d t) (short : (t : ℕ) → t < p .tasks → d t ≤ longestTime) where
+    (allowed : (t : ℕ) → t < p .tasks → (best p c t ≤ d t) × (d t ≤ worst p c t)) where
+  positive : (t : ℕ) → t < p .tasks → 1 ≤ d t
+  positive t l = omega (arith, allowed t l, task-times p c a t l)
+
+  short : (t : ℕ) → t < p .tasks → d t ≤ longestTime
+  short t l = omega (arith, allowed t l, task-times p c a t l)
+
   -- position i starts after at most i times
   start-by : (i : ℕ) → i < p .tasks → startsOf p c d i ≤ i * longestTime
   start-by i l =
       omega (
         arith,
-        bound (lawful a) (greedy a d) i l,
-        sum-le i (λ j. durations c d j + 0) longestTime (λ j m. omega (arith, short (entryAt (c .order) j) (a .task j (lt-trans m l)))),
+        bound _ (p .tasks) _ 0 (lawful p c a) (durations c d) (startsOf p c d) (greedy p c a d) i l,
+        sum-le i (λ j. durations c d j + 0) longestTime
+            (λ j m. omega (arith, short (entryAt (c .order) j) (a .task j (lt-trans m l)))),
       )
 
-  line-by : (i : ℕ) → i < p .tasks → length (row (ended p c d) (entryOf c i)) ≤ digits (entryAt (c .order) i) + beside i
+  abbrev lineOf : ℕ → List ℕ
+  lineOf = lineAt (c .order) (c .chosen) (ran p c d .starts) (ran p c d .finishes)
+
+  line-by : (i : ℕ) → i < p .tasks → length (lineOf i) ≤ digits (entryAt (c .order) i) + beside i
+  unfolding ran
   line-by i l =
       let t = entryAt (c .order) i in
       let m = a .task i l in
+      let n : t < mostTasks = omega (arith, a .few-tasks) in
       rw (
-        line-length t (entryAt (c .chosen) i) (orZero (ended p c d .start t)) (orZero (ended p c d .finish t)),
-        ended-start a d positive t m,
-        ended-finish a d positive t m,
-        position-entry a i l,
+        line-length t (entryAt (c .chosen) i) (entryAt (ran p c d .starts) t) (entryAt (ran p c d .finishes) t),
+        getD-tabulate mostTasks (λ t. orZero (ended p c d .start t)) t 0 n,
+        getD-tabulate mostTasks (λ t. orZero (ended p c d .finish t)) t 0 n,
+        ended-start p c a d positive t m,
+        ended-finish p c a d positive t m,
+        position-entry p c a i l,
       )
       (omega (
         arith,
@@ -77,58 +90,38 @@ module _ (p : Plan) (c : Constraint) (a : Accepted p c) (d : ℕ → ℕ)
         decimal-mono (startsOf p c d i + d t) (suc i * longestTime) (omega (arith, start-by i l, short t m)),
       ))
 
-  last-by : length (lastLine (response p c d)) ≤ digits (mostTasks * longestTime) + 3
-  unfolding horizon
-  last-by =
-      omega (
+  pub longest : length (textOf c (ran p c d)) ≤ longestTimetable
+  unfolding textBy ran
+  longest =
+      rw (length-append, length-lines) (omega (
         arith,
-        last-length (response p c d),
-        decimal-mono (response p c d) (mostTasks * longestTime)
-            (omega (arith, response-sum a d positive, sum-le (p .tasks) d longestTime short, a .few-tasks)),
-      )
-
-  lines-by : length (rows (ended p c d) (entries c)) ≤ sum mostTasks digits + sum mostTasks beside
-  unfolding entries
-  lines-by =
-      omega (
-        arith,
-        ap length (rows-joined (ended p c d) (c .len) (entryOf c)) ∙ length-joined (c .len) _ ∙ ap (λ (n : ℕ). sum n lines) (a .whole),
-        sum-apart (p .tasks) lines (λ i. digits (entryAt (c .order) i)) beside line-by,
-        by-position a digits,
+        whole,
+        ap (λ (n : ℕ). sum n (λ i. length (lineOf i))) (a .whole),
+        length-append (decimal (response p c d)) (10 ∷ []),
+        sum-apart (p .tasks) (λ i. length (lineOf i)) (λ i. digits (entryAt (c .order) i)) beside line-by,
+        by-position p c a digits,
         sum-mono mostTasks digits (p .tasks) (a .few-tasks),
         sum-mono mostTasks beside (p .tasks) (a .few-tasks),
-      )
-    where
-      lines : ℕ → ℕ
-      lines i = length (row (ended p c d) (entryOf c i))
-
-pub longest : (p : Plan) (c : Constraint) → verdict p c .number ≡ 0 → (d : ℕ → ℕ)
-    → ((t : ℕ) → t < p .tasks → (1 ≤ d t) × (d t ≤ longestTime)) → length (textOf p c d) ≤ 1306
-unfolding textOf
-longest p c e d h =
-    let a = accepted p c e in
-    omega (
-      arith,
-      whole,
-      length-append (rows (ended p c d) (entries c)) (lastLine (response p c d)),
-      lines-by p c a d (λ t l. h t l .0) (λ t l. h t l .1),
-      last-by p c a d (λ t l. h t l .0) (λ t l. h t l .1),
-    )
+        decimal-mono (response p c d) (mostTasks * longestTime)
+            (omega (arith, response-sum p c a d positive, sum-le (p .tasks) d longestTime short, a .few-tasks)),
+      ))
 
 -- ---- the calls that the timetable takes
 
-pub longest-worst : (p : Plan) (c : Constraint) → verdict p c .number ≡ 0 → length (worstText p c) ≤ 1306
-unfolding worstText
-longest-worst p c e =
-    longest p c e (worst p c) (λ t l. let h = task-times (accepted p c e) t l in (omega arith, omega arith))
+pub longest-worst : (p : Plan) (c : Constraint) → worstCase p c .number ≡ 0 → length (textOf c (worstCase p c)) ≤ longestTimetable
+longest-worst p c z =
+    let a = worst-taken p c z in
+    rw (worst-runs p c z) (longest p c a (worst p c) (λ t l. let h = task-times p c a t l in (h .ordered, omega arith)))
 
 -- each time of a list that is not refused is in its range
 in-range : (p : Plan) (c : Constraint) (times : List ℕ) → timesVerdict p c times .number ≡ 0 → (t : ℕ) → t < p .tasks
     → (best p c t ≤ timeIn times t) × (timeIn times t ≤ worst p c t)
 unfolding timesVerdict unlessAt outside allowed
 in-range p c times e t l =
-    let b = not-false _ inside in
-    (leb-true _ _ (and-left _ (leb (timeIn times t) (worst p c t)) b), leb-true _ _ (and-right (leb (best p c t) (timeIn times t)) _ b))
+    let b = not-false _ inside in (
+      leb-true _ _ (and-left _ (leb (timeIn times t) (worst p c t)) b),
+      leb-true _ _ (and-right (leb (best p c t) (timeIn times t)) _ b),
+    )
   where
     inside : outside p c times t ≡ false
     inside =
@@ -137,12 +130,8 @@ in-range p c times e t l =
         (λ g. first-none (p .tasks) (outside p c times) (ltb-false _ _ g) t l))
         (λ f. absurd (omega (arith, rw f at e)))
 
-pub longest-simulated : (p : Plan) (c : Constraint) (times : List ℕ) → simulationVerdict p c times .number ≡ 0
-    → length (textOf p c (timeIn times)) ≤ 1306
-unfolding simulationVerdict
-longest-simulated p c times e =
-    let f = first-taken (verdict p c) (timesVerdict p c times) e in
-    longest p c f (timeIn times)
-    (λ t l. let h = task-times (accepted p c f) t l in
-    let r = in-range p c times (second-taken (verdict p c) (timesVerdict p c times) e) t l in
-    (omega arith, omega arith))
+pub longest-simulated : (p : Plan) (c : Constraint) (times : List ℕ) → simulated p c times .number ≡ 0
+    → length (textOf c (simulated p c times)) ≤ longestTimetable
+longest-simulated p c times z =
+    rw (simulated-runs p c times z)
+    (longest p c (simulated-taken p c times z) (timeIn times) (in-range p c times (times-taken p c times z)))

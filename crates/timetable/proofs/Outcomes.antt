@@ -1,17 +1,23 @@
 -- What is answered and written, branch by branch. Assumes nothing.
-use mathlib.Core.Path.{_≡_, sym, ap, _∙_}
+use mathlib.Core.Path.{_≡_, refl, ap, _∙_, subst}
 use mathlib.Core.List.{List, _++_}
-use Prim.Native.Nat.{ℕ, _<_}
+use Prim.Native.Nat.{ℕ, _+_, _≤_, _<_}
 use native.Mathlib.Nat.{zero-add}
 use native.Mathlib.Omega.{arith}
 use borrow.Author.Tests.{eq-eqb, ne-eqb, lt-ltb, le-ltb}
-use lib.ListN.{length, drop}
+use lib.ListN.{length, drop, length-append}
 use lib.Seq.{sets-eq}
+use Rattle.plan.specs.declared.Constraint.{Constraint}
 use Rattle.plan.specs.declared.Verdict.{Verdict}
-use Rattle.plan.specs.Refusals.{firstRefusal}
+use Rattle.plan.specs.Refusals.{refused, accepted, firstRefusal}
+use Rattle.plan.specs.Buffers.{atStart}
+use Rattle.simulation.specs.declared.Simulation.{Simulation}
 use Rattle.timetable.specs.declared.Written.{Written}
-use Rattle.timetable.specs.Table.{fitted, answered, filled}
+use Rattle.timetable.specs.Decimal.{decimal}
+use Rattle.timetable.specs.Table.{textOf}
+use Rattle.timetable.specs.Refusal.{refusalLine, lineWritten, lineAfter}
 use Rattle.timetable.specs.Steps.{Room, Put, Outcome}
+use Rattle.timetable.proofs.Digits.{decimal-longest}
 
 module _ (v : Verdict) (text b : List ℕ) where
   pub refuses : (v .number ≡ 0 → ⊥) → Outcome v text b (record { number = v .number; place = v .place; written = 0 }) b
@@ -23,25 +29,41 @@ module _ (v : Verdict) (text b : List ℕ) where
     unfolding firstRefusal
     too-short f l = record { answer = rw (eq-eqb _ _ e, ← f, lt-ltb _ _ l); bytes = rw (eq-eqb _ _ e, ← f, lt-ltb _ _ l) }
 
-    pub writes : {b₁ : List ℕ} {n : ℕ} → Room b 0 text → Put b 0 text b₁ n → Outcome v text b (record { number = 0; place = 0; written = n }) b₁
+    pub fits : length text ≤ length b
+        → Outcome v text b (record { number = 0; place = 0; written = length text }) (atStart text b)
     unfolding firstRefusal
+    fits l = let f = le-ltb (length b) (length text) l in record { answer = rw (eq-eqb _ _ e, f); bytes = rw (eq-eqb _ _ e, f) }
+
+    pub writes : {b₁ : List ℕ} {n : ℕ} → Room b 0 text → Put b 0 text b₁ n
+        → Outcome v text b (record { number = 0; place = 0; written = n }) b₁
     writes r p =
-        let f = le-ltb (length b) (length text) (omega arith) in
+        let z = zero-add (length text) in
+        let o = fits (omega arith) in
         record {
-          answer = rw (eq-eqb _ _ e, f) (ap (λ (k : ℕ). record { number = 0; place = 0; written = k }) (p .end ∙ zero-add (length text)));
-          bytes = rw (eq-eqb _ _ e, f) (p .bytes ∙ sets-eq text b 0 (r .fits) ∙ ap (λ (k : ℕ). text ++ drop k b) (zero-add (length text)));
+          answer = ap (λ (k : ℕ). record { number = 0; place = 0; written = k }) (p .end ∙ z) ∙ o .answer;
+          bytes = p .bytes ∙ sets-eq text b 0 (r .fits) ∙ ap (λ (k : ℕ). text ++ drop k b) z ∙ o .bytes;
         }
 
--- what is refused is the same for every text
-pub any-text : (v : Verdict) (s t : List ℕ) {b b₁ : List ℕ} {w : Written} → (v .number ≡ 0 → ⊥) → Outcome v s b w b₁ → Outcome v t b w b₁
-any-text v s t {b} f o =
-    let from = refuses v s b f in
-    let to = refuses v t b f in
-    record { answer = o .answer ∙ sym (from .answer) ∙ to .answer; bytes = o .bytes ∙ sym (from .bytes) ∙ to .bytes }
+-- what is answered for one simulation is answered for one that is the same
+pub by-run : (c : Constraint) {s t : Simulation} {b b₁ : List ℕ} {w : Written} → s ≡ t
+    → Outcome (refused (s .number) (s .place)) (textOf c s) b w b₁ → Outcome (refused (t .number) (t .place)) (textOf c t) b w b₁
+by-run c {b = b} {b₁} {w} = subst (λ (s : Simulation). Outcome (refused (s .number) (s .place)) (textOf c s) b w b₁)
 
--- and what is not refused for every verdict that does not refuse
-pub any-verdict : (v w : Verdict) (s : List ℕ) {b b₁ : List ℕ} {x : Written} → v .number ≡ 0 → w .number ≡ 0 → Outcome v s b x b₁ → Outcome w s b x b₁
-unfolding firstRefusal
-any-verdict v w s {b} e f o =
-    let g : fitted v s (length b) ≡ fitted w s (length b) = rw (eq-eqb _ _ e, eq-eqb _ _ f) in
-    record { answer = o .answer ∙ ap (λ u. answered u s) g; bytes = o .bytes ∙ ap (λ u. filled u s b) g }
+-- ---- the line of a refusal
+
+pub refusal-length : (number place : ℕ)
+    → length (refusalLine number place) ≡ length (decimal number) + length (decimal place) + 10
+unfolding refusalLine
+refusal-length number place = simp length-append (omega arith)
+
+pub refusal-longest : (number place : ℕ) → length (refusalLine number place) ≤ 50
+refusal-longest number place = omega (arith, refusal-length number place, decimal-longest number, decimal-longest place)
+
+pub line-short : (b line : List ℕ) → length b < length line → (0 ≡ lineWritten (length b) line) × (b ≡ lineAfter b line)
+unfolding lineWritten lineAfter
+line-short b line l = let o = too-short accepted line b refl refl l in (ap (λ (w : Written). w .written) (o .answer), o .bytes)
+
+pub line-put : {b line b₁ : List ℕ} {n : ℕ} → Room b 0 line → Put b 0 line b₁ n
+    → (n ≡ lineWritten (length b) line) × (b₁ ≡ lineAfter b line)
+unfolding lineWritten lineAfter
+line-put {b} {line} r p = let o = writes accepted line b refl r p in (ap (λ (w : Written). w .written) (o .answer), o .bytes)

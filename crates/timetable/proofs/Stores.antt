@@ -6,14 +6,15 @@ use native.Mathlib.Nat.{add-zero, le-of-eq}
 use native.Mathlib.Omega.{arith}
 use lib.ListN.{length, set, length-append}
 use lib.Seq.{sets, set-comm, length-sets}
-use Rattle.timetable.specs.Decimal.{digitByte, decimal}
+use Rattle.timetable.specs.Decimal.{decimal}
 use Rattle.timetable.specs.Steps.{Room, Put}
 use Rattle.timetable.proofs.Digits.{decimal-one, decimal-more, length-one, length-more}
 
 -- two runs are one
 sets-append : (b : List ℕ) (at : ℕ) (s t : List ℕ) → sets (sets b at s) (at + length s) t ≡ sets b at (s ++ t)
 sets-append b at [] t = rw add-zero
-sets-append b at (x ∷ s) t = ap (λ (i : ℕ). sets (sets (set b at x) (suc at) s) i t) (omega arith) ∙ sets-append (set b at x) (suc at) s t
+sets-append b at (x ∷ s) t =
+    ap (λ (i : ℕ). sets (sets (set b at x) (suc at) s) i t) (omega arith) ∙ sets-append (set b at x) (suc at) s t
 
 -- ---- texts, one after the other
 
@@ -48,16 +49,16 @@ sets-set b at (y ∷ s) i x l =
 
 -- the last digit of x is stored at i, before the others
 pub last-digit : (b : List ℕ) (at x i : ℕ) → 10 ≤ x → x < 10 ^ 20 → i + 1 ≡ at + length (decimal x)
-    → sets (set b i (digitByte (x % 10))) at (decimal (x / 10)) ≡ sets b at (decimal x)
+    → sets (set b i (48 + x % 10)) at (decimal (x / 10)) ≡ sets b at (decimal x)
 last-digit b at x i l h e =
     let j : at + length (decimal (x / 10)) ≡ i = omega (arith, length-more x l h) in
-    sym (sets-set b at (decimal (x / 10)) i (digitByte (x % 10)) (le-of-eq j))
-    ∙ ap (λ (k : ℕ). set (sets b at (decimal (x / 10))) k (digitByte (x % 10))) (sym j)
-    ∙ sets-append b at (decimal (x / 10)) (digitByte (x % 10) ∷ [])
+    sym (sets-set b at (decimal (x / 10)) i (48 + x % 10) (le-of-eq j))
+    ∙ ap (λ (k : ℕ). set (sets b at (decimal (x / 10))) k (48 + x % 10)) (sym j)
+    ∙ sets-append b at (decimal (x / 10)) ((48 + x % 10) ∷ [])
     ∙ ap (sets b at) (sym (decimal-more x l h))
 
 -- the only digit
-pub only-digit : (b : List ℕ) (at x i : ℕ) → x < 10 → i + 1 ≡ at + length (decimal x) → set b i (digitByte x) ≡ sets b at (decimal x)
+pub only-digit : (b : List ℕ) (at x i : ℕ) → x < 10 → i + 1 ≡ at + length (decimal x) → set b i (48 + x) ≡ sets b at (decimal x)
 only-digit b at x i l e =
     let j : i ≡ at = omega (arith, length-one x l) in
-    ap (λ (k : ℕ). set b k (digitByte x)) j ∙ ap (sets b at) (sym (decimal-one x l))
+    ap (λ (k : ℕ). set b k (48 + x)) j ∙ ap (sets b at) (sym (decimal-one x l))

@@ -1,75 +1,70 @@
 -- The timetable (document 01, "Timetable and program"; "When an operation says no", Timetable). Assumes nothing.
 use mathlib.Core.Bool.{cond}
 use mathlib.Core.List.{List, [], _∷_, _++_}
-use Prim.Native.Nat.{ℕ}
-use lib.Dec.{eqb, ltb}
-use lib.ListN.{length, drop}
+use Prim.Native.Nat.{ℕ, zero, suc}
+use lib.Dec.{eqb}
+use lib.ListN.{length}
 use Rattle.plan.specs.declared.Plan.{Plan}
 use Rattle.plan.specs.declared.Constraint.{Constraint}
 use Rattle.plan.specs.declared.Verdict.{Verdict}
-use Rattle.plan.specs.Refusals.{refused, accepted, firstRefusal, verdict}
-use Rattle.runs.specs.Running.{Entry, entries, worst, Notes, orZero, ended, response}
-use Rattle.simulation.specs.Simulated.{timeIn, simulationVerdict}
+use Rattle.plan.specs.Refusals.{entryAt, refused}
+use Rattle.plan.specs.Buffers.{fitted, filled}
+use Rattle.simulation.specs.declared.Simulation.{Simulation}
+use Rattle.simulation.specs.Simulated.{simulated, worstCase}
 use Rattle.timetable.specs.declared.Written.{Written}
 use Rattle.timetable.specs.Decimal.{decimal}
 
--- "Decimal, tabs between, newline after each"
-abbrev pub tabbed : List ℕ → List ℕ → List ℕ
-tabbed field rest = field ++ 9 ∷ rest
+-- "Decimal, tabs between, newline after each": a number and the byte that ends it, 9 for a tab and 10 for a newline
+abbrev pub field : ℕ → ℕ → List ℕ
+field x mark = decimal x ++ mark ∷ []
 
-abbrev pub newlined : List ℕ → List ℕ
-newlined field = field ++ 10 ∷ []
+-- "task, type, start, finish"
+abbrev pub line : ℕ → ℕ → ℕ → ℕ → List ℕ
+line t k s f = (field t 9 ++ field k 9) ++ (field s 9 ++ field f 10)
 
--- "A line for each task in execution order: task, type, start, finish"
-abbrev pub row : Notes → Entry → List ℕ
-row n e =
-    tabbed (decimal (e .task))
-    (tabbed (decimal (e .type)) (tabbed (decimal (orZero (n .start (e .task)))) (newlined (decimal (orZero (n .finish (e .task)))))))
-
-unfoldable pub rows : Notes → List Entry → List ℕ
-rows n [] = []
-rows n (e ∷ rest) = row n e ++ rows n rest
+-- "A line for each task in execution order", here of the first positions; starts and finishes are by task number
+unfoldable pub lines : List ℕ → List ℕ → List ℕ → List ℕ → ℕ → List ℕ
+lines order chosen starts finishes zero = []
+lines order chosen starts finishes (suc i) =
+    let t = entryAt order i in
+    lines order chosen starts finishes i ++ line t (entryAt chosen i) (entryAt starts t) (entryAt finishes t)
 
 -- "Last, `R` and the response"
-unfoldable pub textOf : Plan → Constraint → (ℕ → ℕ) → List ℕ
-textOf p c d = rows (ended p c d) (entries c) ++ tabbed (82 ∷ []) (newlined (decimal (response p c d)))
+unfoldable pub textBy : List ℕ → List ℕ → List ℕ → List ℕ → ℕ → ℕ → List ℕ
+textBy order chosen starts finishes n response = lines order chosen starts finishes n ++ 82 ∷ 9 ∷ field response 10
+
+-- the timetable of a simulation that is accepted
+abbrev pub textOf : Constraint → Simulation → List ℕ
+textOf c s = textBy (c .order) (c .chosen) (s .starts) (s .finishes) (c .len) (s .response)
+
+-- "The longest is 1,306 bytes"
+abbrev pub longestTimetable : ℕ
+longestTimetable = 1306
 
 -- ---- a text that is to be written, after the refusals v that come before it
 
--- "then 19: buffer shorter than needed, place the bytes needed"
-abbrev pub fitted : Verdict → List ℕ → ℕ → Verdict
-fitted v text room = firstRefusal v (cond (ltb room (length text)) (refused 19 (length text)) accepted)
+-- "then 19 .. Accepted, it answers the bytes written", where there is so much room
+abbrev pub answered : Verdict → List ℕ → ℕ → Written
+answered v text room =
+    let f = fitted v (length text) room in
+    record { number = f .number; place = f .place; written = cond (eqb (f .number) 0) (length text) 0 }
 
--- "Accepted, it answers the bytes written"
-abbrev pub answered : Verdict → List ℕ → Written
-answered v text =
-    record { number = v .number; place = v .place; written = cond (eqb (v .number) 0) (length text) 0 }
+-- the lent buffer afterwards
+abbrev pub bytesAfter : Verdict → List ℕ → List ℕ → List ℕ
+bytesAfter v text buffer = filled (fitted v (length text) (length buffer)) text buffer
 
--- the lent buffer afterwards: "bytes after them are unchanged"; "No lent buffer is altered by any refusal"
-abbrev pub filled : Verdict → List ℕ → List ℕ → List ℕ
-filled v text buffer = cond (eqb (v .number) 0) (text ++ drop (length text) buffer) buffer
-
--- ---- the timetable of given times: "8 to 11, 17, 18, then 19"
-
-unfoldable pub timetableVerdict : Plan → Constraint → List ℕ → ℕ → Verdict
-timetableVerdict p c times room = fitted (simulationVerdict p c times) (textOf p c (timeIn times)) room
+-- ---- the timetable of given times: "8 to 11, 17, 18" of the simulation, "then 19"
 
 unfoldable pub timetabled : Plan → Constraint → List ℕ → ℕ → Written
-timetabled p c times room = answered (timetableVerdict p c times room) (textOf p c (timeIn times))
+timetabled p c times = let s = simulated p c times in answered (refused (s .number) (s .place)) (textOf c s)
 
 unfoldable pub bufferAfter : Plan → Constraint → List ℕ → List ℕ → List ℕ
-bufferAfter p c times buffer = filled (timetableVerdict p c times (length buffer)) (textOf p c (timeIn times)) buffer
+bufferAfter p c times = let s = simulated p c times in bytesAfter (refused (s .number) (s .place)) (textOf c s)
 
 -- ---- the timetable of worst times, which the program writes: 8 to 11, then 19
 
-unfoldable pub worstText : Plan → Constraint → List ℕ
-worstText p c = textOf p c (worst p c)
-
-unfoldable pub worstVerdict : Plan → Constraint → ℕ → Verdict
-worstVerdict p c room = fitted (verdict p c) (worstText p c) room
-
 unfoldable pub worstTimetabled : Plan → Constraint → ℕ → Written
-worstTimetabled p c room = answered (worstVerdict p c room) (worstText p c)
+worstTimetabled p c = let s = worstCase p c in answered (refused (s .number) (s .place)) (textOf c s)
 
 unfoldable pub worstBufferAfter : Plan → Constraint → List ℕ → List ℕ
-worstBufferAfter p c buffer = filled (worstVerdict p c (length buffer)) (worstText p c) buffer
+worstBufferAfter p c = let s = worstCase p c in bytesAfter (refused (s .number) (s .place)) (textOf c s)

@@ -4,11 +4,10 @@ ghost use Prim.Native.Nat.{_≤_};
 ghost use lib.ListN.{length};
 ghost use Rattle.plan.specs.Rules.{mostTasks};
 ghost use Rattle.plan.specs.Refusals.{refused};
-ghost use Rattle.timetable.specs.Steps.{Outcome, textBy};
-ghost use Rattle.timetable.specs.Table.{bufferAfter, timetabled, worstBufferAfter, worstTimetabled};
+ghost use Rattle.timetable.specs.Steps.{Outcome};
+ghost use Rattle.timetable.specs.Table.{bufferAfter, textBy, timetabled, worstBufferAfter, worstTimetabled};
 use lines::put_text;
 use lines::text_length;
-use lines::wide;
 use plan::Constraint;
 use plan::MOST_TASKS;
 use plan::Plan;
@@ -18,6 +17,9 @@ mod lines;
 mod refusal;
 
 pub use refusal::put_refusal;
+
+// The bytes of the longest timetable.
+pub const LONGEST_TIMETABLE: usize = 1306;
 
 // The bytes written, with number and place 0; or a refusal's number and place.
 pub struct Written {
@@ -32,8 +34,8 @@ fn write_run<'a>(
     place: usize,
     order: &'a [usize; MOST_TASKS],
     chosen: &'a [usize; MOST_TASKS],
-    starts: &'a [u32; MOST_TASKS],
-    finishes: &'a [u32; MOST_TASKS],
+    starts: &'a [u32],
+    finishes: &'a [u32],
     len: usize,
     response: usize,
     buffer: &mut [u8],
@@ -75,7 +77,7 @@ pub fn timetable(p: Plan, c: Constraint, times: &[u32], buffer: &mut [u8]) -> Wr
     let number = s.number;
     let place = s.place;
     let len = c.len;
-    let response = wide(s.response);
+    let response = s.response as usize;
     write_run(
         number,
         place,
@@ -98,7 +100,7 @@ pub fn worst_timetable(p: Plan, c: Constraint, buffer: &mut [u8]) -> Written
     let number = s.number;
     let place = s.place;
     let len = c.len;
-    let response = wide(s.response);
+    let response = s.response as usize;
     write_run(
         number,
         place,

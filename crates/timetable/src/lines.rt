@@ -1,31 +1,34 @@
 // The lines of a timetable, from the arrays of a run.
 ghost use mathlib.Core.Path.{_≡_};
+ghost use mathlib.Core.List.{_∷_, _++_};
 ghost use Prim.Native.Nat.{_*_, _≤_};
 ghost use lib.ListN.{length};
 ghost use Rattle.plan.specs.Rules.{mostTasks};
-ghost use Rattle.timetable.specs.Steps.{Put, Room, field, instantOf, joined, lastLine, line, lineAt, textBy};
+ghost use Rattle.plan.specs.Refusals.{entryAt};
+ghost use Rattle.timetable.specs.Table.{field, line, lines, textBy};
+ghost use Rattle.timetable.specs.Steps.{Put, Room};
 use crate::decimal::decimal_length;
 use crate::decimal::put_decimal;
 use plan::MOST_TASKS;
 
-pub fn wide(x: u32) -> usize
+fn wide(x: u32) -> usize
     ensures { λ r. ⌜ r ≡ x ⌝ }
 {
     x as usize
 }
 
 // The instant of task t, from the starts or the finishes; 0 past the last task.
-fn instant_of(instants: &[u32; MOST_TASKS], t: usize) -> usize
-    ensures { λ r. ⌜ r ≡ instantOf (now (instants .entry)) t ⌝ }
+fn instant_of(instants: &[u32], t: usize) -> usize
+    ensures { λ r. ⌜ r ≡ entryAt (now (instants .entry)) t ⌝ }
 {
-    if MOST_TASKS <= t {
+    if instants.len() <= t {
         return 0;
     }
     wide(instants[t])
 }
 
 // Writes a number and the byte that ends it.
-pub fn put_field(buffer: &mut [u8], at: usize, x: usize, mark: u8) -> usize
+fn put_field(buffer: &mut [u8], at: usize, x: usize, mark: u8) -> usize
     requires { ⌜ Room (now buffer) at (field x mark) ⌝ }
     ensures { λ r. ⌜ Put (now (buffer .entry)) at (field x mark) (now (buffer .exit)) r ⌝ }
 {
@@ -34,15 +37,22 @@ pub fn put_field(buffer: &mut [u8], at: usize, x: usize, mark: u8) -> usize
     end + 1
 }
 
+// Writes two numbers, a tab between them and a byte after them.
+pub fn put_pair(buffer: &mut [u8], at: usize, x: usize, y: usize, mark: u8) -> usize
+    requires { ⌜ Room (now buffer) at (field x 9 ++ field y mark) ⌝ }
+    ensures { λ r. ⌜ Put (now (buffer .entry)) at (field x 9 ++ field y mark) (now (buffer .exit)) r ⌝ }
+{
+    let next = put_field(buffer, at, x, b'\t');
+    put_field(buffer, next, y, mark)
+}
+
 // Writes the line of a task t on type k that starts at s and finishes at f.
 fn put_line(buffer: &mut [u8], at: usize, t: usize, k: usize, s: usize, f: usize) -> usize
     requires { ⌜ Room (now buffer) at (line t k s f) ⌝ }
     ensures { λ r. ⌜ Put (now (buffer .entry)) at (line t k s f) (now (buffer .exit)) r ⌝ }
 {
-    let typed = put_field(buffer, at, t, b'\t');
-    let started = put_field(buffer, typed, k, b'\t');
-    let finished = put_field(buffer, started, s, b'\t');
-    put_field(buffer, finished, f, b'\n')
+    let next = put_pair(buffer, at, t, k, b'\t');
+    put_pair(buffer, next, s, f, b'\n')
 }
 
 fn line_length(t: usize, k: usize, s: usize, f: usize) -> usize
@@ -55,13 +65,13 @@ fn line_length(t: usize, k: usize, s: usize, f: usize) -> usize
 fn lines_length<'a>(
     order: &'a [usize; MOST_TASKS],
     chosen: &'a [usize; MOST_TASKS],
-    starts: &'a [u32; MOST_TASKS],
-    finishes: &'a [u32; MOST_TASKS],
+    starts: &'a [u32],
+    finishes: &'a [u32],
     len: usize,
 ) -> usize
     requires { ⌜ len ≤ mostTasks ⌝ }
-    ensures { λ r. ⌜ (r ≡ length (joined len (lineAt (now (order .entry)) (now (chosen .entry)) (now (starts .entry)) (now (finishes .entry)))))
-        × (r ≤ len * 84) ⌝ }
+    ensures { λ r. ⌜ (r ≤ len * 84)
+        × (r ≡ length (lines (now (order .entry)) (now (chosen .entry)) (now (starts .entry)) (now (finishes .entry)) len)) ⌝ }
 {
     let mut n = 0;
     let mut i = 0;
@@ -80,14 +90,15 @@ fn lines_length<'a>(
 fn put_lines<'a>(
     order: &'a [usize; MOST_TASKS],
     chosen: &'a [usize; MOST_TASKS],
-    starts: &'a [u32; MOST_TASKS],
-    finishes: &'a [u32; MOST_TASKS],
+    starts: &'a [u32],
+    finishes: &'a [u32],
     len: usize,
     buffer: &mut [u8],
 ) -> usize
-    requires { ⌜ (len ≤ mostTasks) × Room (now buffer) 0 (joined len (lineAt (now order) (now chosen) (now starts) (now finishes))) ⌝ }
+    requires { ⌜ (len ≤ mostTasks) × Room (now buffer) 0 (lines (now order) (now chosen) (now starts) (now finishes) len) ⌝ }
     ensures { λ r. ⌜ Put (now (buffer .entry)) 0
-        (joined len (lineAt (now (order .entry)) (now (chosen .entry)) (now (starts .entry)) (now (finishes .entry)))) (now (buffer .exit)) r ⌝ }
+        (lines (now (order .entry)) (now (chosen .entry)) (now (starts .entry)) (now (finishes .entry)) len)
+        (now (buffer .exit)) r ⌝ }
 {
     let mut at = 0;
     let mut i = 0;
@@ -104,8 +115,8 @@ fn put_lines<'a>(
 
 // The last line: `R` and the response.
 fn put_last(buffer: &mut [u8], at: usize, response: usize) -> usize
-    requires { ⌜ Room (now buffer) at (lastLine response) ⌝ }
-    ensures { λ r. ⌜ Put (now (buffer .entry)) at (lastLine response) (now (buffer .exit)) r ⌝ }
+    requires { ⌜ Room (now buffer) at (82 ∷ 9 ∷ field response 10) ⌝ }
+    ensures { λ r. ⌜ Put (now (buffer .entry)) at (82 ∷ 9 ∷ field response 10) (now (buffer .exit)) r ⌝ }
 {
     buffer[at] = b'R';
     let tab = at + 1;
@@ -117,13 +128,14 @@ fn put_last(buffer: &mut [u8], at: usize, response: usize) -> usize
 pub fn text_length<'a>(
     order: &'a [usize; MOST_TASKS],
     chosen: &'a [usize; MOST_TASKS],
-    starts: &'a [u32; MOST_TASKS],
-    finishes: &'a [u32; MOST_TASKS],
+    starts: &'a [u32],
+    finishes: &'a [u32],
     len: usize,
     response: usize,
 ) -> usize
     requires { ⌜ len ≤ mostTasks ⌝ }
-    ensures { λ r. ⌜ r ≡ length (textBy (now (order .entry)) (now (chosen .entry)) (now (starts .entry)) (now (finishes .entry)) len response) ⌝ }
+    ensures { λ r. ⌜ r ≡ length
+        (textBy (now (order .entry)) (now (chosen .entry)) (now (starts .entry)) (now (finishes .entry)) len response) ⌝ }
 {
     lines_length(order, chosen, starts, finishes, len) + decimal_length(response) + 3
 }
@@ -132,15 +144,17 @@ pub fn text_length<'a>(
 pub fn put_text<'a>(
     order: &'a [usize; MOST_TASKS],
     chosen: &'a [usize; MOST_TASKS],
-    starts: &'a [u32; MOST_TASKS],
-    finishes: &'a [u32; MOST_TASKS],
+    starts: &'a [u32],
+    finishes: &'a [u32],
     len: usize,
     response: usize,
     buffer: &mut [u8],
 ) -> usize
-    requires { ⌜ (len ≤ mostTasks) × Room (now buffer) 0 (textBy (now order) (now chosen) (now starts) (now finishes) len response) ⌝ }
+    requires { ⌜ (len ≤ mostTasks)
+        × Room (now buffer) 0 (textBy (now order) (now chosen) (now starts) (now finishes) len response) ⌝ }
     ensures { λ r. ⌜ Put (now (buffer .entry)) 0
-        (textBy (now (order .entry)) (now (chosen .entry)) (now (starts .entry)) (now (finishes .entry)) len response) (now (buffer .exit)) r ⌝ }
+        (textBy (now (order .entry)) (now (chosen .entry)) (now (starts .entry)) (now (finishes .entry)) len response)
+        (now (buffer .exit)) r ⌝ }
 {
     let at = put_lines(order, chosen, starts, finishes, len, buffer);
     put_last(buffer, at, response)

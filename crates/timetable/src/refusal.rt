@@ -4,7 +4,7 @@ ghost use lib.ListN.{length};
 ghost use Rattle.timetable.specs.Refusal.{lineAfter, lineWritten, refusalLine, refusedWord};
 ghost use Rattle.timetable.specs.Steps.{Put, Room};
 use crate::decimal::decimal_length;
-use crate::lines::put_field;
+use crate::lines::put_pair;
 
 // Writes `refused` and a tab at the start of the buffer.
 fn put_word(buffer: &mut [u8]) -> usize
@@ -33,6 +33,5 @@ pub fn put_refusal(number: u32, place: usize, buffer: &mut [u8]) -> usize
         return 0;
     }
     let numbered = put_word(buffer);
-    let placed = put_field(buffer, numbered, n, b'\t');
-    put_field(buffer, placed, place, b'\n')
+    put_pair(buffer, numbered, n, place, b'\n')
 }

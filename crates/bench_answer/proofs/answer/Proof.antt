@@ -6,19 +6,21 @@ use Rattle.bench_answer.proofs.answer.Statement.{statement}
 use Rattle.bench_answer.proofs.answer.Tie as tie
 
 returns : tie.Need-returns
-returns c = unread _ (c .before .before .before .read .ensures) _ (omega arith) (c .before .before .if1 .taken) (c .put-refusal .ensures)
+returns c =
+    let i = c .before .before in unread _ (i .before .read .ensures) _ (omega arith) (i .if1 .taken) (c .put-refusal .ensures)
 
 returns-2 : tie.Need-returns-2
 returns-2 c =
     let w = c .before .before .before .before in
-    refuses-it _ (w .before .before .before .read .ensures) _ (omega arith) (w .before .before .if1 .left) (w .worst-timetable .ensures)
+    let i = w .before .before in
+    refuses-it _ (i .before .read .ensures) _ (omega arith) (i .if1 .left) (w .worst-timetable .ensures)
     (c .before .before .if2 .taken) (c .put-refusal2 .ensures)
 
 returns-3 : tie.Need-returns-3
 returns-3 c =
     let w = c .before .before in
-    times-it _ (w .before .before .before .read .ensures) _ (omega arith) (w .before .before .if1 .left) (w .worst-timetable .ensures)
-    (c .if2 .left)
+    let i = w .before .before in
+    times-it _ (i .before .read .ensures) _ (omega arith) (i .if1 .left) (w .worst-timetable .ensures) (c .if2 .left)
 
 pub answer-spec : {M : Type 1} → statement M
 answer-spec =

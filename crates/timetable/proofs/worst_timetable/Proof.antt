@@ -1,16 +1,20 @@
 -- `timetable::worst_timetable` meets its contract. Assumes nothing.
 use borrow.Author.Needs.{needs}
-use Rattle.timetable.proofs.Ran.{worst-few, worst-outcome}
+use Rattle.timetable.specs.Table.{worstTimetabled, worstBufferAfter}
+use Rattle.timetable.proofs.Outcomes.{by-run}
+use Rattle.timetable.proofs.Ran.{worst-taken, few}
 use Rattle.timetable.proofs.worst_timetable.Statement.{statement}
 use Rattle.timetable.proofs.worst_timetable.Tie as tie
 
 returns : tie.Need-returns
+unfolding worstTimetabled worstBufferAfter
 returns c =
-    let w = c .before .before .before .before .before .before .before .before .before .before in
-    worst-outcome _ _ (w .before .bound .ensures .0) (w .wide .ensures) (c .before .before .write-run .ensures)
+    let w = c .before .before in
+    let s = w .before .before .before .before .before .before .before .before .before .before in
+    let o = by-run _ (s .bound .ensures .0) (w .write-run .ensures) in (o .answer, o .bytes)
 
 pub worst-timetable-spec : {M : Type 1} → statement M
 worst-timetable-spec =
-    tie.close (tie.spec (λ c κs. search needs) (λ c κs. search needs)
-    (λ c κs. worst-few _ _ (c .before .before .before .before .before .before .before .before .bound .ensures .0))
+    tie.close (tie.spec (λ c κs. search needs) (λ c. search needs)
+    (λ c κs. few (worst-taken _ _) (c .before .before .before .before .before .before .before .before .before .bound .ensures .0))
     (λ c. search needs) returns)

@@ -1,4 +1,4 @@
--- `timetable::decimal::decimal_length` meets its contract: the digits counted and those of what is left are one more than all. Assumes nothing.
+-- `timetable::decimal::decimal_length` meets its contract: those counted and those left are one more than all. Assumes nothing.
 use mathlib.Core.Path.{_≡_}
 use Prim.Native.Nat.{_+_, _≤_}
 use native.Mathlib.Omega.{arith}
@@ -15,11 +15,9 @@ Inv-loop x left₀ n₀ left n = (left ≤ x) × (n + length (decimal left) ≡ 
 abbrev μ-loop : tie.MeasureT-loop
 μ-loop x left₀ n₀ left n = left
 
-returns : tie.Need-returns Inv-loop μ-loop
-returns c = omega (arith, length-one (c .before .loop .left) (c .loop-test .left), decimal-longest (c .before .before .args .x))
-
 pub decimal-length-spec : {M : Type 1} → statement M
 decimal-length-spec =
     tie.close (tie.spec Inv-loop μ-loop (λ c. search needs)
     (λ c. omega (arith, decimal-longest (c .before .before .args .x))) (λ c. search needs)
-    (λ c. omega (arith, length-more (c .before .loop .left) (c .loop-test .taken) (omega arith))) returns)
+    (λ c. omega (arith, length-more (c .before .loop .left) (c .loop-test .taken) (omega arith)))
+    (λ c. omega (arith, length-one (c .before .loop .left) (c .loop-test .left), decimal-longest (c .before .before .args .x))))

@@ -20,19 +20,23 @@ abbrev μ-loop : tie.MeasureT-loop
 μ-loop buffer₀ at x end left₀ i₀ buffer left i = left
 
 sub-i-2 : tie.Need-sub-i-2 Inv-loop μ-loop
-sub-i-2 c = omega (arith, length-more (c .before .loop .left) (c .loop-test .taken) (omega arith), decimal-some ((c .before .loop .left) / 10))
+sub-i-2 c =
+    let x = c .before .loop .left in omega (arith, length-more x (c .loop-test .taken) (omega arith), decimal-some (x / 10))
 
 loop-again : tie.Need-loop-again Inv-loop μ-loop
-loop-again c = (
-  omega arith,
-  omega arith,
-  omega (arith, length-more (c .before .loop .left) (c .loop-test .taken) (omega arith), decimal-some ((c .before .loop .left) / 10)),
-  simp length-set (c .before .loop .inv .3),
-  last-digit _ _ _ _ (c .loop-test .taken) (omega arith) (c .before .loop .inv .2) ∙ c .before .loop .inv .4,
-)
+loop-again c =
+    let l = c .before .loop in (
+      omega arith,
+      omega arith,
+      omega (arith, length-more (l .left) (c .loop-test .taken) (omega arith), decimal-some (l .left / 10)),
+      simp length-set (l .inv .3),
+      last-digit _ _ _ _ (c .loop-test .taken) (omega arith) (l .inv .2) ∙ l .inv .4,
+    )
 
 returns : tie.Need-returns Inv-loop μ-loop
-returns c = record { bytes = only-digit _ _ _ _ (c .loop-test .left) (c .before .loop .inv .2) ∙ c .before .loop .inv .4; end = search needs }
+returns c =
+    let inv = c .before .loop .inv in
+    record { bytes = only-digit _ _ _ _ (c .loop-test .left) (inv .2) ∙ inv .4; end = search needs }
 
 pub put-decimal-spec : {M : Type 1} → statement M
 put-decimal-spec =

@@ -1,19 +1,11 @@
--- `timetable::lines::instant_of` meets its contract. Assumes nothing.
-use mathlib.Core.Path.{_∙_}
+-- `timetable::lines::instant_of` meets its contract: past the last there is 0. Assumes nothing.
+use mathlib.Core.Path.{sym}
+use lib.ListN.{List·getD-eq-default}
 use borrow.Author.Needs.{needs}
-use borrow.Author.Tests.{le-ltb, lt-ltb}
-use Rattle.timetable.specs.Steps.{instantOf}
 use Rattle.timetable.proofs.lines.instant_of.Statement.{statement}
 use Rattle.timetable.proofs.lines.instant_of.Tie as tie
 
-returns : tie.Need-returns
-unfolding instantOf
-returns c = simp (le-ltb _ _ (c .if1 .taken))
-
-returns-2 : tie.Need-returns-2
-unfolding instantOf
-returns-2 c = c .wide .ensures ∙ simp (lt-ltb _ _ (c .before .before .if1 .left))
-
 pub instant-of-spec : {M : Type 1} → statement M
 instant-of-spec =
-    tie.close (tie.spec returns (λ c. search needs) (λ c. search needs) (λ c κs. search needs) returns-2)
+    tie.close (tie.spec (λ c. sym (List·getD-eq-default (c .before .before .args .instants .now) 0 (c .if1 .taken)))
+    (λ c. search needs) (λ c. search needs) (λ c κs. search needs) (λ c. search needs))

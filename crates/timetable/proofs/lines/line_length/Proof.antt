@@ -5,10 +5,9 @@ use Rattle.timetable.proofs.Text.{line-length}
 use Rattle.timetable.proofs.lines.line_length.Statement.{statement}
 use Rattle.timetable.proofs.lines.line_length.Tie as tie
 
-returns : tie.Need-returns
-returns c = let a = c .before .before .before .before .args in (omega (arith, line-length (a .t) (a .k) (a .s) (a .f)), omega arith)
-
 pub line-length-spec : {M : Type 1} → statement M
 line-length-spec =
     tie.close (tie.spec (λ c κs. search needs) (λ c κs. search needs) (λ c. search needs) (λ c κs. search needs)
-    (λ c. search needs) (λ c κs. search needs) (λ c. search needs) (λ c. search needs) returns)
+    (λ c. search needs) (λ c κs. search needs) (λ c. search needs) (λ c. search needs)
+    (λ c. let a = c .before .before .before .before .args in
+    (omega (arith, line-length (a .t) (a .k) (a .s) (a .f)), omega arith)))

@@ -8,7 +8,9 @@ use Rattle.timetable.proofs.lines.put_field.Statement.{statement}
 use Rattle.timetable.proofs.lines.put_field.Tie as tie
 
 -- the byte after the number is in the buffer
-room : (c : tie.After-slice-known2) → let r = c .before .before .put-decimal in Room (r .last .0) (r .result) (c .before .before .before .before .before .args .mark ∷ [])
+room : (c : tie.After-slice-known2)
+    → let l = c .before .before in
+    Room (l .put-decimal .last .0) (l .put-decimal .result) (l .before .before .before .args .mark ∷ [])
 room c = room-then (c .before .before .put-decimal .ensures) _ (c .before .before .before .before .before .pre)
 
 pub put-field-spec : {M : Type 1} → statement M

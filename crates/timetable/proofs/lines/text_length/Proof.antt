@@ -2,7 +2,7 @@
 use native.Mathlib.Omega.{arith}
 use lib.ListN.{length-append}
 use borrow.Author.Needs.{needs}
-use Rattle.timetable.specs.Steps.{textBy}
+use Rattle.timetable.specs.Table.{textBy}
 use Rattle.timetable.proofs.lines.text_length.Statement.{statement}
 use Rattle.timetable.proofs.lines.text_length.Tie as tie
 
