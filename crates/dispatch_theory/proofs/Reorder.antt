@@ -73,7 +73,8 @@ unfolding count sum
 count-sum zero p = refl
 count-sum (suc n) p = ap (λ (k : ℕ). k + cond (p n) 1 0) (count-sum n p)
 
-pub count-reorder : (n : ℕ) (f : ℕ → ℕ) (p : ℕ → Bool) → ((i : ℕ) → i < n → f i < n) → ((i j : ℕ) → i < n → j < n → f i ≡ f j → i ≡ j)
+pub count-reorder : (n : ℕ) (f : ℕ → ℕ) (p : ℕ → Bool) → ((i : ℕ) → i < n → f i < n)
+    → ((i j : ℕ) → i < n → j < n → f i ≡ f j → i ≡ j)
     → ((t : ℕ) → t < n → (i : ℕ) × (i < n) × (f i ≡ t)) → count n (λ i. p (f i)) ≡ count n p
 count-reorder n f p low once somewhere =
     count-sum n _ ∙ sum-reorder n f (λ t. cond (p t) 1 0) low once somewhere ∙ sym (count-sum n p)

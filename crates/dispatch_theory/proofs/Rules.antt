@@ -45,7 +45,8 @@ module _ (o : Order) (F : ℕ → ℕ) (s k : ℕ) where
   unfolding ruleGate
   gate-elim e =
       record {
-        waited = λ j l w. leb-true (F j) s (implies-elim (o .waits k j) (leb (F j) s) (all-elim k met (and-left (all k met) roomy e) j l) w);
+        waited = λ j l w. leb-true (F j) s
+            (implies-elim (o .waits k j) (leb (F j) s) (all-elim k met (and-left (all k met) roomy e) j l) w);
         room = ltb-true _ (o .units (o .type k)) (and-right (all k met) roomy e);
       }
 

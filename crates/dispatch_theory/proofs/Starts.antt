@@ -40,7 +40,8 @@ module _ (may : Gate) (hold : ℕ → ℕ) (base : ℕ) (d : ℕ → ℕ) where
   unfolding upto starts
   upto-starts zero j l = absurd (not-suc-le-zero l)
   upto-starts (suc k) j l =
-      below-suc (λ j. upto (suc k) j ≡ starts j) k (λ j h. rw (lt-ltb j k h) (upto-starts k j h)) (rw (le-ltb k k (le-refl k))) j l
+      below-suc (λ j. upto (suc k) j ≡ starts j) k (λ j h. rw (lt-ltb j k h) (upto-starts k j h))
+      (rw (le-ltb k k (le-refl k))) j l
 
 module _ {may : Gate} {n : ℕ} {hold : ℕ → ℕ} {base : ℕ} (L : Lawful may n hold base) (d : ℕ → ℕ) where
   abbrev S : ℕ → ℕ

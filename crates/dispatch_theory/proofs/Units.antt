@@ -55,7 +55,8 @@ module _ (o : Order) {d S : ℕ → ℕ} (g : Greedy (ruleGate o) (o .size) d S)
           arith,
           open-now .room,
           b .as-many t (S k) known (g .order k low),
-          count-every (o .units t) (taken F t (S k)) (λ v m. lt-ltb (S k) (F t v) (omega (arith, least v m, ltb-true (S k) (F t u) e))),
+          count-every (o .units t) (taken F t (S k))
+              (λ v m. lt-ltb (S k) (F t v) (omega (arith, least v m, ltb-true (S k) (F t u) e))),
         )))
         (ltb-false (S k) (F t u))
 

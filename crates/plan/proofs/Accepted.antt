@@ -55,7 +55,8 @@ accepted p c e =
       somewhere = somewhere (p .tasks) (c .order) (q .placed);
       type = type;
       times = λ i l.
-          usable-times p kept (entryAt (c .order) i) (low (p .tasks) (c .order) (q .placed) i l) (entryAt (c .chosen) i) (type i l)
+          usable-times p kept (entryAt (c .order) i) (low (p .tasks) (c .order) (q .placed) i l) (entryAt (c .chosen) i)
+          (type i l)
           (not-false _ (or-right-off (leb (p .types) (entryAt (c .chosen) i)) _ (q .usable i l)));
       earlier = λ i u l. before p kept (c .order) (q .placed) i l (q .ordered i l) u;
     }
@@ -67,7 +68,8 @@ accepted p c e =
     kept = q .kept
 
     type : (i : ℕ) → i < p .tasks → entryAt (c .chosen) i < p .types
-    type i l = leb-false (p .types) (entryAt (c .chosen) i) (or-left-off (leb (p .types) (entryAt (c .chosen) i)) _ (q .usable i l))
+    type i l =
+        leb-false (p .types) (entryAt (c .chosen) i) (or-left-off (leb (p .types) (entryAt (c .chosen) i)) _ (q .usable i l))
 
 -- what a pass over the positions relies on
 pub positions : (p : Plan) (c : Constraint) → Accepted p c → Positions (c .order) (c .chosen) (c .len)

@@ -96,7 +96,8 @@ module _ (p : Plan) (kept : planOk p ≡ true) (order : List ℕ) (ok : (i : ℕ
           let r = stands (w .0) (w .1) h in
           let f = not-true _ (and-right (has s (w .0)) _ (w .2)) in
           let k : i < r .0 = by-test (ltb (r .0) i)
-          (λ g. absurd (clash (eq-eqb (entryAt order (r .0)) (w .0) (r .2)) (any-off i (λ k. eqb (entryAt order k) (w .0)) f (r .0) (ltb-true (r .0) i g))))
+          (λ g. absurd (clash (eq-eqb (entryAt order (r .0)) (w .0) (r .2))
+          (any-off i (λ k. eqb (entryAt order k) (w .0)) f (r .0) (ltb-true (r .0) i g))))
           (λ g. omega (arith, ltb-false (r .0) i g, r .3)) in
           any-intro (p .tasks) follows (r .0) (r .1) (and-both (lt-ltb i (r .0) k) (ap (has s) (r .2) ∙ h))
 

@@ -91,7 +91,8 @@ module _ (p : Plan) (e : planOk p ≡ true) where
   unfolding unitsOk
   units-between k l =
       at-present (ltb k (p .types)) (between 1 (getD (p .units) k 0) mostUnits) _
-      (all-elim mostTypes (unitsOk (p .types) (p .units)) (and-left units-rule tasks-rule rest) k (lt-of-lt-of-le l few-types)) (lt-ltb k (p .types) l)
+      (all-elim mostTypes (unitsOk (p .types) (p .units)) (and-left units-rule tasks-rule rest) k
+      (lt-of-lt-of-le l few-types)) (lt-ltb k (p .types) l)
 
   pub some-units : (k : ℕ) → k < p .types → 1 ≤ getD (p .units) k 0
   some-units k l = between-low 1 (getD (p .units) k 0) mostUnits (units-between k l)
@@ -112,14 +113,16 @@ module _ (p : Plan) (e : planOk p ≡ true) where
     task-ok : pairs-rule && (type-rule && predecessors-rule) ≡ true
     unfolding taskOk
     task-ok =
-        all-elim mostTasks (taskOk (p .types) (p .tasks) (p .bcet) (p .wcet) (p .predecessors)) (and-right units-rule tasks-rule rest) t
+        all-elim mostTasks (taskOk (p .types) (p .tasks) (p .bcet) (p .wcet) (p .predecessors))
+        (and-right units-rule tasks-rule rest) t
         (lt-of-lt-of-le present few-tasks)
 
     pub usable-times : (k : ℕ) → k < p .types → usable (p .wcet) t k ≡ true → Times (timeOf (p .bcet) t k) (timeOf (p .wcet) t k)
     unfolding pairsOk usable
     usable-times k m u =
         pair-times (ltb t (p .tasks) && ltb k (p .types)) (timeOf (p .bcet) t k) (timeOf (p .wcet) t k)
-        (all-elim mostTypes pair-rule (and-left pairs-rule (type-rule && predecessors-rule) task-ok) k (lt-of-lt-of-le m few-types)) u
+        (all-elim mostTypes pair-rule (and-left pairs-rule (type-rule && predecessors-rule) task-ok) k
+        (lt-of-lt-of-le m few-types)) u
       where
         pair-rule : ℕ → Bool
         pair-rule k = pairOk (ltb t (p .tasks) && ltb k (p .types)) (timeOf (p .bcet) t k) (timeOf (p .wcet) t k)
@@ -134,7 +137,8 @@ module _ (p : Plan) (e : planOk p ≡ true) where
     unfolding predecessorsOk
     predecessors-ok =
         at-present (ltb t (p .tasks)) (not (has predecessors t) && all width known) (eqb predecessors 0)
-        (and-right type-rule predecessors-rule (and-right pairs-rule (type-rule && predecessors-rule) task-ok)) (lt-ltb t (p .tasks) present)
+        (and-right type-rule predecessors-rule (and-right pairs-rule (type-rule && predecessors-rule) task-ok))
+        (lt-ltb t (p .tasks) present)
 
     pub not-itself : has predecessors t ≡ false
     not-itself = not-true (has predecessors t) (and-left (not (has predecessors t)) (all width known) predecessors-ok)
@@ -142,4 +146,5 @@ module _ (p : Plan) (e : planOk p ≡ true) where
     pub known-predecessor : (u : ℕ) → u < width → has predecessors u ≡ true → u < p .tasks
     known-predecessor u m h =
         ltb-true u (p .tasks)
-        (implies-elim (has predecessors u) (ltb u (p .tasks)) (all-elim width known (and-right (not (has predecessors t)) (all width known) predecessors-ok) u m) h)
+        (implies-elim (has predecessors u) (ltb u (p .tasks))
+        (all-elim width known (and-right (not (has predecessors t)) (all width known) predecessors-ok) u m) h)

@@ -1,4 +1,5 @@
--- The rules of the tasks, as the check tests them: the pairs in one row, then the types and predecessors of each task. Assumes nothing.
+-- The rules of the tasks, as the check tests them: the pairs in one row, then the types and predecessors of each task.
+-- Assumes nothing.
 use mathlib.Core.Path.{_≡_, refl, sym, _∙_}
 use mathlib.Core.Bool.{Bool, true, false, cond, _&&_, _||_, not, and-true, and-false, and-comm, and-assoc, or-true, or-false, Bool·not-not}
 use mathlib.Core.List.{List}
@@ -21,7 +22,13 @@ pair-parts here zero zero = sym (or-true here)
 pair-parts here zero (suc worst) = simp (compare·zero-suc, compare·suc-zero, and-false)
 pair-parts here (suc best) zero = simp (compare·suc-zero, and-false)
 pair-parts here (suc best) (suc worst) =
-    simp (compare·suc-zero, lt-ltb 0 (suc best) (zero-lt-suc best), lt-ltb 0 (suc worst) (zero-lt-suc worst), and-true, or-false) (and-comm here _)
+    simp (
+      compare·suc-zero,
+      lt-ltb 0 (suc best) (zero-lt-suc best),
+      lt-ltb 0 (suc worst) (zero-lt-suc worst),
+      and-true,
+      or-false,
+    ) (and-comm here _)
 
 -- a time by where its pair lies
 module _ (times : List ℕ) (t k : ℕ) {i : ℕ} (e : i ≡ pairPlace t k) where
@@ -32,7 +39,11 @@ module _ (times : List ℕ) (t k : ℕ) {i : ℕ} (e : i ≡ pairPlace t k) wher
       kept : ltb t mostTasks && ltb k mostTypes ≡ true → ⊥
       kept f =
           let q : i ≡ pairIndex t k = rw f at e in
-          omega (arith, ltb-true t mostTasks (and-left (ltb t mostTasks) _ f), ltb-true k mostTypes (and-right (ltb t mostTasks) _ f))
+          omega (
+            arith,
+            ltb-true t mostTasks (and-left (ltb t mostTasks) _ f),
+            ltb-true k mostTypes (and-right (ltb t mostTasks) _ f),
+          )
 
   pub time-there : i < mostPairs → getD times i 0 ≡ timeOf times t k
   unfolding timeOf pairPlace
@@ -57,22 +68,26 @@ module _ (types tasks : ℕ) (bcet wcet predecessors : List ℕ) where
   unfolding pairsOk pairFitsAt usable
   pairs-parts t l =
       all-cong mostTypes _ (λ k. pairFitsAt bcet wcet (pairIndex t k) && ((ltb t tasks && ltb k types) || not (usable wcet t k)))
-      (λ k m. pair-parts (ltb t tasks && ltb k types) (timeOf bcet t k) (timeOf wcet t k) ∙ rw (time-at bcet t k l m, time-at wcet t k l m))
+      (λ k m. pair-parts (ltb t tasks && ltb k types) (timeOf bcet t k) (timeOf wcet t k)
+      ∙ rw (time-at bcet t k l m, time-at wcet t k l m))
       ∙ all-both mostTypes _ _
 
   types-parts : (t : ℕ) → unused t && someTypeOk tasks wcet t ≡ typesOk types tasks wcet t
   unfolding someTypeOk typesOk noTypeFrom
   types-parts t = go (ltb t tasks)
     where
-      go : (here : Bool) → all mostTypes (λ k. (here && ltb k types) || not (usable wcet t k)) && implies here (any mostTypes (usable wcet t))
+      go : (here : Bool) → all mostTypes (λ k. (here && ltb k types) || not (usable wcet t k)) && implies here
+          (any mostTypes (usable wcet t))
           ≡ cond here (not (noTypeFrom wcet t 0) && noTypeFrom wcet t types) (noTypeFrom wcet t 0)
       go true = simp (leb·suc-zero, not-all, Bool·not-not) (and-comm (noTypeFrom wcet t types) (any mostTypes (usable wcet t)))
       go false = simp (leb·suc-zero, and-true)
 
-  task-parts : (t : ℕ) → t < mostTasks → taskOk types tasks bcet wcet predecessors t ≡ row t && restOk types tasks wcet predecessors t
+  task-parts : (t : ℕ) → t < mostTasks → taskOk types tasks bcet wcet predecessors t
+      ≡ row t && restOk types tasks wcet predecessors t
   unfolding taskOk restOk
   task-parts t l = rw (pairs-parts t l, ← types-parts t) (simp and-assoc)
 
   pub tasks-parts : all mostTasks (taskOk types tasks bcet wcet predecessors)
       ≡ all mostPairs (pairFitsAt bcet wcet) && all mostTasks (restOk types tasks wcet predecessors)
-  tasks-parts = all-cong mostTasks _ _ task-parts ∙ all-both mostTasks row _ ∙ rw (all-rows mostTasks mostTypes (pairFitsAt bcet wcet))
+  tasks-parts =
+      all-cong mostTasks _ _ task-parts ∙ all-both mostTasks row _ ∙ rw (all-rows mostTasks mostTypes (pairFitsAt bcet wcet))

@@ -34,7 +34,8 @@ holds-more {order} {i} {s} h =
 
 -- what the loops test, from the answers of the functions that they call
 module _ {order : List ℕ} {i s : ℕ} (h : Holds order i s) where
-  pub misplaced-by : {tasks : ℕ} {b : Bool} → tasks ≤ width → b ≡ has s (entryAt order i) → leb tasks (entryAt order i) || b ≡ misplaced tasks order i
+  pub misplaced-by : {tasks : ℕ} {b : Bool} → tasks ≤ width → b ≡ has s (entryAt order i) → leb tasks (entryAt order i) || b
+      ≡ misplaced tasks order i
   unfolding misplaced placed
   misplaced-by {tasks} l e = ap (λ (b : Bool). leb tasks t || b) e ∙ by-test (leb tasks t) absent present
     where
@@ -47,11 +48,13 @@ module _ {order : List ℕ} {i s : ℕ} (h : Holds order i s) where
       present : leb tasks t ≡ false → leb tasks t || has s t ≡ leb tasks t || placed order i t
       present e = ap (λ (b : Bool). leb tasks t || b) (h .has-placed t (lt-of-lt-of-le (leb-false tasks t e) l))
 
-  pub unmet-by : (predecessors : List ℕ) {p : ℕ} {b : Bool} → p ≡ predecessorsOf predecessors (entryAt order i) → b ≡ subset p s → not b ≡ unmet predecessors order i
+  pub unmet-by : (predecessors : List ℕ) {p : ℕ} {b : Bool} → p ≡ predecessorsOf predecessors (entryAt order i)
+      → b ≡ subset p s → not b ≡ unmet predecessors order i
   unfolding subset unmet
   unmet-by predecessors {p} {b} e f =
       ap not f ∙ not-all width (λ u. implies (has p u) (has s u))
-      ∙ any-cong width (λ u. not (implies (has p u) (has s u))) (λ u. has p u && not (placed order i u)) (λ u l. each (has p u) u l)
+      ∙ any-cong width (λ u. not (implies (has p u) (has s u))) (λ u. has p u && not (placed order i u))
+      (λ u l. each (has p u) u l)
       ∙ ap (λ (x : ℕ). any width (λ u. has x u && not (placed order i u))) e
     where
       each : (b : Bool) (u : ℕ) → u < width → not (implies b (has s u)) ≡ b && not (placed order i u)

@@ -30,10 +30,12 @@ module _ (p : Plan) (c : Constraint) where
   -- 9 to 11, from the first position that each search finds; 11's looks for a predecessor that does not stand before
   pub order-by : planOk p ≡ true → c .len ≡ p .tasks → {x y z : ℕ} → x ≡ first (p .tasks) at-9 → y ≡ first (p .tasks) at-10
       → z ≡ first (p .tasks) (unmet (p .predecessors) (c .order))
-      → cond (ltb x (p .tasks)) (refused 9 x) (cond (ltb y (p .tasks)) (refused 10 y) (cond (ltb z (p .tasks)) (refused 11 z) accepted))
+      → cond (ltb x (p .tasks)) (refused 9 x)
+      (cond (ltb y (p .tasks)) (refused 10 y) (cond (ltb z (p .tasks)) (refused 11 z) accepted))
       ≡ verdict p c
   unfolding verdict
-  order-by kept whole {x} {y} {z} ex ey ez = by-test (ltb x n) (λ q. rw q (rw q at nine)) (λ q. ap above (tens (searched q)) ∙ nine) ∙ rest
+  order-by kept whole {x} {y} {z} ex ey ez =
+      by-test (ltb x n) (λ q. rw q (rw q at nine)) (λ q. ap above (tens (searched q)) ∙ nine) ∙ rest
     where
       n : ℕ
       n = p .tasks

@@ -41,7 +41,8 @@ pub notes-ext : {n m : Notes} → n .instant ≡ m .instant → ((t : ℕ) → n
     → ((t : ℕ) → n .finish t ≡ m .finish t) → n ≡ m
 notes-ext {n} {m} e f g =
     ap (λ (i : ℕ). record { instant = i; start = n .start; finish = n .finish }) e
-    ∙ ap₂ (λ (s : ℕ → Option ℕ) (r : ℕ → Option ℕ). record { instant = m .instant; start = s; finish = r }) (fun-ext f) (fun-ext g)
+    ∙ ap₂ (λ (s : ℕ → Option ℕ) (r : ℕ → Option ℕ). record { instant = m .instant; start = s; finish = r }) (fun-ext f)
+    (fun-ext g)
 
 module _ {p : Plan} {c : Constraint} (a : Accepted p c) (d : ℕ → ℕ) (positive : Lasting p d) where
   -- the greedy start by position, and by task
@@ -126,13 +127,15 @@ module _ {p : Plan} {c : Constraint} (a : Accepted p c) (d : ℕ → ℕ) (posit
             (λ h. let r = a .earlier k u low l h in
             let w : waits k (r .0) ≡ true = ap (has (predecessorsOf (p .predecessors) (taskAt c k))) (r .2) ∙ h in
             subst (λ (x : ℕ). hasFinished (walked i k) x ≡ true) (r .2)
-            (finished-entry i k (r .0) (lt-trans (r .1) low) ∙ implies-elim (waits k (r .0)) (leb (F (r .0)) i) (all-elim k met e (r .0) (r .1)) w)))
+            (finished-entry i k (r .0) (lt-trans (r .1) low)
+            ∙ implies-elim (waits k (r .0)) (leb (F (r .0)) i) (all-elim k met e (r .0) (r .1)) w)))
 
     -- a position that holds a unit in the walk: one before k that is not over
     taken-entry : (j : ℕ) → j < k → isRunning (walked i k) (taskAt c j) ≡ ltb i (F j)
     taken-entry j l =
         let m : j < p .tasks = lt-trans l low in
-        rw (started-entry i k j m, finished-entry i k j m, le-leb (S j) i (past j l), lt-ltb j k l, or-true (ltb (S j) i)) (not-leb (F j) i)
+        rw (started-entry i k j m, finished-entry i k j m, le-leb (S j) i (past j l), lt-ltb j k l, or-true (ltb (S j) i))
+        (not-leb (F j) i)
 
     -- a position from k on has not started
     late : (j : ℕ) → k ≤ j → j < p .tasks → i ≤ S j
@@ -148,7 +151,8 @@ module _ {p : Plan} {c : Constraint} (a : Accepted p c) (d : ℕ → ℕ) (posit
         ∙ sym (count-by-position a uses)
         ∙ count-upto k (p .tasks) (λ j. uses (taskAt c j)) (le-of-lt low) (λ j l m. rw (not-started j l m) refl)
         ∙ count-cong k (λ j. uses (taskAt c j)) (holds (orderOf p c) F i y)
-        (λ j l. ap₂ _&&_ (taken-entry j l) (ap (λ (x : ℕ). eqb x y) (type-entry a j (lt-trans l low))) ∙ and-comm (ltb i (F j)) (eqb (type j) y))
+        (λ j l. ap₂ _&&_ (taken-entry j l) (ap (λ (x : ℕ). eqb x y) (type-entry a j (lt-trans l low)))
+        ∙ and-comm (ltb i (F j)) (eqb (type j) y))
       where
         uses : ℕ → Bool
         uses t = isRunning (walked i k) t && eqb (typeOf c t) y
@@ -164,7 +168,9 @@ module _ {p : Plan} {c : Constraint} (a : Accepted p c) (d : ℕ → ℕ) (posit
         may s = ruleGate (orderOf p c) F k s
 
         open-now : leb (S k) i ≡ true → may i ≡ leb (S k) i
-        open-now e = let q : S k ≡ i = omega (arith, leb-true (S k) i e) in rw e (subst (λ (x : ℕ). may x ≡ true) q (greedy a d .open-at k low))
+        open-now e =
+            let q : S k ≡ i = omega (arith, leb-true (S k) i e) in rw e
+            (subst (λ (x : ℕ). may x ≡ true) q (greedy a d .open-at k low))
 
         shut-now : leb (S k) i ≡ false → may i ≡ leb (S k) i
         shut-now e = rw e (greedy a d .closed k i low (after-le S k i past) (leb-false (S k) i e))
@@ -173,12 +179,14 @@ module _ {p : Plan} {c : Constraint} (a : Accepted p c) (d : ℕ → ℕ) (posit
 
   -- the positions passed have started, and those from k on have not come before
   stops : (i k : ℕ) → ((j : ℕ) → j < k → S j ≤ i) → ((j : ℕ) → k ≤ j → j < p .tasks → i < S j) → walked i k ≡ closed i
-  stops i k past later = notes-ext refl (λ t. ap (λ (b : Bool). once b (at t)) (ours-cong (begun i k) (λ t. leb (at t) i) each t)) (λ t. refl)
+  stops i k past later =
+      notes-ext refl (λ t. ap (λ (b : Bool). once b (at t)) (ours-cong (begun i k) (λ t. leb (at t) i) each t)) (λ t. refl)
     where
       each : (t : ℕ) → t < p .tasks → begun i k t ≡ leb (at t) i
       each t l =
           by-test (ltb (position c t) k)
-          (λ e. let m : at t ≤ i = past (position c t) (ltb-true (position c t) k e) in rw (e, le-leb (at t) i m) (or-true (ltb (at t) i)))
+          (λ e. let m : at t ≤ i = past (position c t) (ltb-true (position c t) k e) in rw (e, le-leb (at t) i m)
+          (or-true (ltb (at t) i)))
           (λ e. let m : i < at t = later (position c t) (ltb-false (position c t) k e) (position-low a t l) in
           rw (lt-leb (at t) i m, le-ltb (at t) i (le-of-lt m)) refl)
 
@@ -186,7 +194,8 @@ module _ {p : Plan} {c : Constraint} (a : Accepted p c) (d : ℕ → ℕ) (posit
   further : (i k : ℕ) (t : ℕ) → (t < p .tasks → position c t ≡ k → ⊥) → ours t (begun i k t) ≡ ours t (begun i (suc k) t)
   further i k t f =
       by-test (ltb t (p .tasks))
-      (λ e. ap (λ (b : Bool). ours t (ltb (at t) i || (leb (at t) i && b))) (other-below (position c t) k (f (ltb-true t (p .tasks) e))))
+      (λ e. ap (λ (b : Bool). ours t (ltb (at t) i || (leb (at t) i && b)))
+      (other-below (position c t) k (f (ltb-true t (p .tasks) e))))
       (λ e. rw e refl)
 
   -- a position that started before is passed
@@ -208,15 +217,9 @@ module _ {p : Plan} {c : Constraint} (a : Accepted p c) (d : ℕ → ℕ) (posit
       here : (t : ℕ) → eqb (taskAt c k) t ≡ true → goal t
       here t f =
           subst goal (eqb-true (taskAt c k) t f)
-          (rw (
-            eq-eqb (taskAt c k) (taskAt c k) refl,
-            position-entry a k low,
-            lt-ltb (taskAt c k) (p .tasks) (a .task k low),
-            e,
-            le-leb i i (le-refl i),
-            lt-ltb k (suc k) (lt-suc-self k),
-            or-true (ltb i i),
-          ) refl)
+          (rw (eq-eqb (taskAt c k) (taskAt c k) refl, position-entry a k low)
+          (rw (lt-ltb (taskAt c k) (p .tasks) (a .task k low), e, le-leb i i (le-refl i))
+          (rw (lt-ltb k (suc k) (lt-suc-self k), or-true (ltb i i)) refl)))
 
       elsewhere : (t : ℕ) → eqb (taskAt c k) t ≡ false → goal t
       elsewhere t f =
@@ -243,7 +246,8 @@ module _ {p : Plan} {c : Constraint} (a : Accepted p c) (d : ℕ → ℕ) (posit
       goal : Type 0
       goal =
           cond (hasStarted (walked i k) (taskAt c k)) (dispatch p c rest (walked i k))
-          (cond (mayStart p c (walked i k) (entryOf c k)) (dispatch p c rest (begin (walked i k) (taskAt c k))) (walked i k)) ≡ closed i
+          (cond (mayStart p c (walked i k) (entryOf c k)) (dispatch p c rest (begin (walked i k) (taskAt c k))) (walked i k))
+          ≡ closed i
 
       More : Type 0
       More = (k : ℕ) → k + m ≡ p .tasks → ((j : ℕ) → j < k → S j ≤ i) → dispatch p c (drop k (entries c)) (walked i k) ≡ closed i
@@ -261,7 +265,8 @@ module _ {p : Plan} {c : Constraint} (a : Accepted p c) (d : ℕ → ℕ) (posit
       now : More → ltb (S k) i ≡ false → leb (S k) i ≡ true → goal
       now more f g =
           rw (started, f, may-entry i k low past (ltb-false (S k) i f), g)
-          (ap (dispatch p c rest) (begins i k low (omega (arith, ltb-false (S k) i f, leb-true (S k) i g))) ∙ next more (leb-true (S k) i g))
+          (ap (dispatch p c rest) (begins i k low (omega (arith, ltb-false (S k) i f, leb-true (S k) i g)))
+          ∙ next more (leb-true (S k) i g))
 
       later : ltb (S k) i ≡ false → leb (S k) i ≡ false → goal
       later f g =
@@ -277,11 +282,14 @@ module _ {p : Plan} {c : Constraint} (a : Accepted p c) (d : ℕ → ℕ) (posit
   opened = notes-ext refl starts-none ends-none
     where
       starts-none : (t : ℕ) → none ≡ walked 0 0 .start t
-      starts-none t = rw (le-ltb (at t) 0 zero-le, le-ltb (position c t) 0 zero-le, and-false (leb (at t) 0), and-false (ltb t (p .tasks))) refl
+      starts-none t =
+          rw (le-ltb (at t) 0 zero-le, le-ltb (position c t) 0 zero-le, and-false (leb (at t) 0))
+          (rw (and-false (ltb t (p .tasks))) refl)
 
       ends-none : (t : ℕ) → none ≡ walked 0 0 .finish t
       ends-none t =
-          by-test (ltb t (p .tasks)) (λ e. rw (lt-leb (at t + d t) 0 (omega (arith, positive t (ltb-true t (p .tasks) e))), and-false (ltb t (p .tasks))) refl)
+          by-test (ltb t (p .tasks)) (λ e.
+          rw (lt-leb (at t + d t) 0 (omega (arith, positive t (ltb-true t (p .tasks) e))), and-false (ltb t (p .tasks))) refl)
           (λ e. rw e refl)
 
   advanced : (i : ℕ) → advance (timeUp d (closed i)) (closed i) ≡ walked (suc i) 0
@@ -291,7 +299,8 @@ module _ {p : Plan} {c : Constraint} (a : Accepted p c) (d : ℕ → ℕ) (posit
       starts-kept t =
           rw (leb·suc-suc (at t) i, le-ltb (position c t) 0 zero-le, and-false (leb (at t) (suc i)), or-false (leb (at t) i)) refl
 
-      ends-noted : (t : ℕ) → ltb t (p .tasks) ≡ true → advance (timeUp d (closed i)) (closed i) .finish t ≡ walked (suc i) 0 .finish t
+      ends-noted : (t : ℕ) → ltb t (p .tasks) ≡ true → advance (timeUp d (closed i)) (closed i) .finish t
+          ≡ walked (suc i) 0 .finish t
       ends-noted t e = by-test (leb f′ i) past (λ f. by-test (leb f′ (suc i)) (now f) (later f))
         where
           f′ : ℕ
@@ -304,7 +313,8 @@ module _ {p : Plan} {c : Constraint} (a : Accepted p c) (d : ℕ → ℕ) (posit
           long = positive t (ltb-true t (p .tasks) e)
 
           past : leb f′ i ≡ true → goal
-          past f = rw (e, f, le-leb f′ (suc i) (omega (arith, leb-true f′ i f)), and-false (given (once (leb (at t) i) (at t)))) refl
+          past f =
+              rw (e, f, le-leb f′ (suc i) (omega (arith, leb-true f′ i f)), and-false (given (once (leb (at t) i) (at t)))) refl
 
           now : leb f′ i ≡ false → leb f′ (suc i) ≡ true → goal
           now f g =
@@ -313,14 +323,16 @@ module _ {p : Plan} {c : Constraint} (a : Accepted p c) (d : ℕ → ℕ) (posit
 
           later : leb f′ i ≡ false → leb f′ (suc i) ≡ false → goal
           later f g =
-              by-test (leb (at t) i) (λ h. rw (e, f, g, h, ne-eqb f′ (suc i) (λ q. omega (arith, q, leb-false f′ (suc i) g))) refl)
+              by-test (leb (at t) i) (λ h. rw (e, f, g, h, ne-eqb f′ (suc i) (λ q. omega (arith, q, leb-false f′ (suc i) g)))
+              refl)
               (λ h. rw (e, f, g, h) refl)
 
   pub timed-closed : (i : ℕ) → timed p c d i ≡ closed i
   unfolding timed opening step
   timed-closed zero = ap (dispatch p c (entries c)) opened ∙ walk (p .tasks) 0 0 (omega arith) (λ j l. absurd (not-suc-le-zero l))
   timed-closed (suc i) =
-      ap (λ (n : Notes). dispatch p c (entries c) (advance (timeUp d n) n)) (timed-closed i) ∙ ap (dispatch p c (entries c)) (advanced i)
+      ap (λ (n : Notes). dispatch p c (entries c) (advance (timeUp d n) n)) (timed-closed i)
+      ∙ ap (dispatch p c (entries c)) (advanced i)
       ∙ walk (p .tasks) (suc i) 0 (omega arith) (λ j l. absurd (not-suc-le-zero l))
 
   -- when a task has started and finished
@@ -328,13 +340,16 @@ module _ {p : Plan} {c : Constraint} (a : Accepted p c) (d : ℕ → ℕ) (posit
   started-timed i t = ap (λ (n : Notes). hasStarted n t) (timed-closed i) ∙ given-once (ours t (leb (at t) i)) (at t)
 
   pub finished-timed : (i t : ℕ) → hasFinished (timed p c d i) t ≡ ltb t (p .tasks) && leb (startsOf p c d (position c t) + d t) i
-  finished-timed i t = ap (λ (n : Notes). hasFinished n t) (timed-closed i) ∙ given-once (ours t (leb (at t + d t) i)) (at t + d t)
+  finished-timed i t =
+      ap (λ (n : Notes). hasFinished n t) (timed-closed i) ∙ given-once (ours t (leb (at t + d t) i)) (at t + d t)
 
   -- a task with start s finishes its time later
-  pub start-finish : (i t s : ℕ) → t < p .tasks → timed p c d i .start t ≡ some s → timed p c d i .finish t ≡ once (leb (s + d t) i) (s + d t)
+  pub start-finish : (i t s : ℕ) → t < p .tasks → timed p c d i .start t ≡ some s
+      → timed p c d i .finish t ≡ once (leb (s + d t) i) (s + d t)
   start-finish i t s l e =
       ap (λ (n : Notes). n .finish t) (timed-closed i)
-      ∙ rw (lt-ltb t (p .tasks) l, once-some (ours t (leb (at t) i)) (at t) s (sym (ap (λ (n : Notes). n .start t) (timed-closed i)) ∙ e)) refl
+      ∙ rw (lt-ltb t (p .tasks) l)
+      (rw (once-some (ours t (leb (at t) i)) (at t) s (sym (ap (λ (n : Notes). n .start t) (timed-closed i)) ∙ e)) refl)
 
   -- the task at a position starts at its greedy start
   pub timed-start : (i k : ℕ) → k < p .tasks → timed p c d i .start (taskAt c k) ≡ once (leb (S k) i) (S k)

@@ -44,7 +44,8 @@ far-ready false true h = absurd (clash (h refl) refl)
 far-ready false false h = refl
 
 -- a task that starts and finishes no later is at least as far
-no-later : (s f s′ f′ i : ℕ) (b b′ : Bool) → s ≤ s′ → f ≤ f′ → (b′ ≡ true → b ≡ true) → asFar (at-instant s f i b) (at-instant s′ f′ i b′) ≡ true
+no-later : (s f s′ f′ i : ℕ) (b b′ : Bool) → s ≤ s′ → f ≤ f′ → (b′ ≡ true → b ≡ true)
+    → asFar (at-instant s f i b) (at-instant s′ f′ i b′) ≡ true
 unfolding asFar
 no-later s f s′ f′ i b b′ l m h =
     by-test (leb f i) (λ e. rw e (far-finished (at-instant s′ f′ i b′)))
@@ -60,7 +61,8 @@ no-later s f s′ f′ i b b′ l m h =
     unfinished e g =
         by-test (leb s i)
         (λ r. by-test (leb s′ i) (λ q. rw (e, g, r, q) both-run) (λ q. rw (e, g, r, q) (far-running (f - i) b′)))
-        (λ r. by-test (leb s′ i) (λ q. absurd (omega (arith, leb-false s i r, leb-true s′ i q))) (λ q. rw (e, g, r, q) (far-ready b b′ h)))
+        (λ r. by-test (leb s′ i) (λ q. absurd (omega (arith, leb-false s i r, leb-true s′ i q)))
+        (λ q. rw (e, g, r, q) (far-ready b b′ h)))
 
 -- ---- two runs
 
@@ -80,7 +82,8 @@ module _ {p : Plan} {c : Constraint} (a : Accepted p c) where
 
     start-no-later : (t : ℕ) → t < p .tasks → startOf p c d t ≤ startOf p c d′ t
     start-no-later t l =
-        compare-start (lawful a) (greedy a d) (greedy a d′) (λ j m. shorter (taskAt c j) (a .task j m)) (position c t) (position-low a t l)
+        compare-start (lawful a) (greedy a d) (greedy a d′) (λ j m. shorter (taskAt c j) (a .task j m)) (position c t)
+        (position-low a t l)
 
     finish-no-later : (t : ℕ) → t < p .tasks → finishOf p c d t ≤ finishOf p c d′ t
     finish-no-later t l = omega (arith, start-no-later t l, shorter t l)
@@ -90,7 +93,8 @@ module _ {p : Plan} {c : Constraint} (a : Accepted p c) where
         let f = sym (finished-timed a d′ positive′ i t) ∙ e in
         let l = and-left (ltb t (p .tasks)) _ f in
         finished-timed a d positive i t
-        ∙ and-both l (le-leb _ i (le-trans (finish-no-later t (ltb-true t (p .tasks) l)) (leb-true _ i (and-right (ltb t (p .tasks)) _ f))))
+        ∙ and-both l (le-leb _ i (le-trans (finish-no-later t (ltb-true t (p .tasks) l))
+        (leb-true _ i (and-right (ltb t (p .tasks)) _ f))))
 
     cleared-no-later : (i t : ℕ) → cleared p (timed p c d′ i) t ≡ true → cleared p (timed p c d i) t ≡ true
     unfolding cleared

@@ -19,7 +19,8 @@ module _ (p : Plan) (c : Constraint) where
       → (n : Notes) → P n → P (dispatch p c es n)
   unfolding dispatch
   walk-keeps P [] f n h = h
-  walk-keeps P (e ∷ rest) f n h = go (hasStarted n (e .task)) refl (mayStart p c n e) (walk-keeps P rest (λ x m. f x (List·Memᴰ·tail m)))
+  walk-keeps P (e ∷ rest) f n h =
+      go (hasStarted n (e .task)) refl (mayStart p c n e) (walk-keeps P rest (λ x m. f x (List·Memᴰ·tail m)))
     where
       go : (b : Bool) → hasStarted n (e .task) ≡ b → (a : Bool) → ((n : Notes) → P n → P (dispatch p c rest n))
           → P (cond b (dispatch p c rest n) (cond a (dispatch p c rest (begin n (e .task))) n))
@@ -36,7 +37,8 @@ module _ (p : Plan) (c : Constraint) where
   -- a start once noted stays
   pub dispatch-keeps : (es : List Entry) (n : Notes) (t : ℕ) → hasStarted n t ≡ true → dispatch p c es n .start t ≡ n .start t
   dispatch-keeps es n t s =
-      walk-keeps (λ m. m .start t ≡ n .start t) es (λ e i m q h. rw (ne-eqb (e .task) t (λ z. clash (ap given h ∙ s) (rw z at q))) h) n refl
+      walk-keeps (λ m. m .start t ≡ n .start t) es
+      (λ e i m q h. rw (ne-eqb (e .task) t (λ z. clash (ap given h ∙ s) (rw z at q))) h) n refl
 
   -- a second walk starts nothing
   pub dispatch-settled : (es : List Entry) (n : Notes) → dispatch p c es (dispatch p c es n) ≡ dispatch p c es n
@@ -51,7 +53,8 @@ module _ (p : Plan) (c : Constraint) where
 
       go : (b : Bool) → hasStarted n (e .task) ≡ b → (a : Bool) → mayStart p c n e ≡ a
           → ((m : Notes) → dispatch p c rest (dispatch p c rest m) ≡ dispatch p c rest m)
-          → let m = cond b (dispatch p c rest n) (cond a (dispatch p c rest (begin n (e .task))) n) in dispatch p c (e ∷ rest) m ≡ m
+          → let m = cond b (dispatch p c rest n) (cond a (dispatch p c rest (begin n (e .task))) n) in dispatch p c
+          (e ∷ rest) m ≡ m
       go true q a f ih = past n q (ih n)
       go false q true f ih = past (begin n (e .task)) (rw (eq-eqb (e .task) (e .task) refl)) (ih (begin n (e .task)))
       go false q false f ih = rw (q, f)

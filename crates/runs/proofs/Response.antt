@@ -55,11 +55,8 @@ module _ {p : Plan} {c : Constraint} (a : Accepted p c) (d : ℕ → ℕ) (posit
   pub ended-start : (t : ℕ) → t < p .tasks → ended p c d .start t ≡ some (startOf p c d t)
   unfolding ended
   ended-start t l =
-      rw (
-        timed-closed a d positive (horizon p d),
-        lt-ltb t (p .tasks) l,
-        le-leb (startOf p c d t) (horizon p d) (omega (arith, finish-by t l)),
-      ) refl
+      rw (timed-closed a d positive (horizon p d), lt-ltb t (p .tasks) l)
+      (rw (le-leb (startOf p c d t) (horizon p d) (omega (arith, finish-by t l))) refl)
 
   pub ended-finish : (t : ℕ) → t < p .tasks → ended p c d .finish t ≡ some (finish t)
   unfolding ended
@@ -99,7 +96,8 @@ module _ {p : Plan} {c : Constraint} (a : Accepted p c) (d : ℕ → ℕ) (posit
       back e =
           all-intro (p .tasks) (hasFinished (timed p c d i))
           (λ t l. finished-timed a d positive i t
-          ∙ and-both (lt-ltb t (p .tasks) l) (le-leb (finish t) i (le-trans (greatest-le (p .tasks) finish t l) (leb-true last i e))))
+          ∙ and-both (lt-ltb t (p .tasks) l)
+          (le-leb (finish t) i (le-trans (greatest-le (p .tasks) finish t l) (leb-true last i e))))
 
   -- a position that has started and is not over holds a unit
   pub held-entry : (i j : ℕ) → j < p .tasks → isRunning (timed p c d i) (taskAt c j) ≡ leb (S j) i && ltb i (ends S D j)
@@ -164,7 +162,8 @@ module _ {p : Plan} {c : Constraint} (a : Accepted p c) (d d′ : ℕ → ℕ) (
       late = sum k (λ j. durations c d j - durations c d′ j)
 
       started-at : (d : ℕ → ℕ) → Lasting p d → (i : ℕ) → hasStarted (timed p c d i) (taskAt c k) ≡ leb (startsOf p c d k) i
-      started-at d w i = started-timed a d w i (taskAt c k) ∙ rw (lt-ltb (taskAt c k) (p .tasks) (a .task k l), position-entry a k l) refl
+      started-at d w i =
+          started-timed a d w i (taskAt c k) ∙ rw (lt-ltb (taskAt c k) (p .tasks) (a .task k l), position-entry a k l) refl
 
   pub response-overrun : response p c d ≤ response p c d′ + sum (p .tasks) (λ t. d t - d′ t)
   response-overrun =

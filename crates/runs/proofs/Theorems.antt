@@ -1,4 +1,5 @@
--- The theorems about runs, each stated once, of tasks of a plan and a constraint that the check takes. Open this file first. Assumes nothing.
+-- The theorems about runs, each stated once, of tasks of a plan and a constraint that the check takes. Open this file first.
+-- Assumes nothing.
 use mathlib.Core.Path.{_≡_, ap, _∙_}
 use mathlib.Core.Bool.{true, false, cond}
 use mathlib.Core.List.{List}
@@ -33,7 +34,8 @@ module _ (p : Plan) (c : Constraint) (ok : verdict p c .number ≡ 0) where
 
   -- ---- one run
 
-  -- "The walk looks at the next unstarted task .. At the first task that may not start, the walk stops": the task at each position
+  -- "The walk looks at the next unstarted task .. At the first task that may not start, the walk stops": the task at each
+  -- position
   -- starts at its greedy start, the first instant, not before the start at the position before it, at which its gate is open
   pub starts-greedy : (d : ℕ → ℕ) → Allowed p c d → (i k : ℕ) → k < p .tasks
       → timed p c d i .start (taskAt c k) ≡ cond (leb (startsOf p c d k) i) (some (startsOf p c d k)) none

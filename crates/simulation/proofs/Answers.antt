@@ -108,5 +108,8 @@ module _ (p : Plan) (c : Constraint) {v : Verdict} (ev : v ≡ verdict p c) (f :
 pub with-sum : (p : Plan) (c : Constraint) {r : Simulation} → r ≡ worstCase p c
     → (r ≡ worstCase p c) × (r .response ≤ sum (p .tasks) (worst p c))
 unfolding worstCase ran notRun bound
-with-sum p c e =
-    (e, rw e (by-test (eqb (verdict p c .number) 0) (λ f. rw f (bound-sum p c (eqb-true (verdict p c .number) 0 f))) (λ f. rw f zero-le)))
+with-sum p c e = (
+  e,
+  rw e (by-test (eqb (verdict p c .number) 0) (λ f. rw f (bound-sum p c (eqb-true (verdict p c .number) 0 f)))
+      (λ f. rw f zero-le)),
+)

@@ -30,12 +30,15 @@ use Rattle.simulation.specs.Steps.{ChosenTimes}
 pub chosen-none : {times order chosen : List ℕ} → ChosenTimes times order chosen 0 (replicate mostTasks 0)
 chosen-none = record { whole = length-replicate {A = ℕ} mostTasks 0; at-position = λ i l. absurd (not-suc-le-zero l) }
 
-pub chosen-more : {times order chosen byTask : List ℕ} {n k v : ℕ} → Positions order chosen n → k < n → ChosenTimes times order chosen k byTask
-    → v ≡ timeOf times (entryAt order k) (entryAt chosen k) → ChosenTimes times order chosen (k + 1) (set byTask (entryAt order k) v)
+pub chosen-more : {times order chosen byTask : List ℕ} {n k v : ℕ} → Positions order chosen n → k < n
+    → ChosenTimes times order chosen k byTask
+    → v ≡ timeOf times (entryAt order k) (entryAt chosen k)
+    → ChosenTimes times order chosen (k + 1) (set byTask (entryAt order k) v)
 chosen-more {times} {order} {chosen} {byTask} {n} {k} {v} o l h e =
     record {
       whole = length-set byTask (entryAt order k) v ∙ h .whole;
-      at-position = below-more (λ (i : ℕ). timeIn written (entryAt order i) ≡ timeOf times (entryAt order i) (entryAt chosen i)) k before here;
+      at-position = below-more (λ (i : ℕ). timeIn written (entryAt order i)
+          ≡ timeOf times (entryAt order i) (entryAt chosen i)) k before here;
     }
   where
     written : List ℕ
@@ -49,7 +52,8 @@ chosen-more {times} {order} {chosen} {byTask} {n} {k} {v} o l h e =
         getD-set-other byTask (entryAt order k) (entryAt order i) v 0 (λ q. omega (arith, o .once i k (lt-trans m l) l q))
         ∙ h .at-position i m
 
-pub chosen-end : {times order chosen byTask : List ℕ} {n k : ℕ} → ChosenTimes times order chosen k byTask → n ≤ k → ChosenTimes times order chosen n byTask
+pub chosen-end : {times order chosen byTask : List ℕ} {n k : ℕ} → ChosenTimes times order chosen k byTask → n ≤ k
+    → ChosenTimes times order chosen n byTask
 chosen-end h l = record { whole = h .whole; at-position = λ i m. h .at-position i (lt-of-lt-of-le m l) }
 
 -- ---- a table with the value of f for each task before position k, and 0 for the others
@@ -72,7 +76,8 @@ module _ {p : Plan} {c : Constraint} (a : Accepted p c) (f : ℕ → ℕ) where
   pub tabled-more : (k : ℕ) → k < p .tasks → set (tabled c k f) (taskAt c k) (f (taskAt c k)) ≡ tabled c (suc k) f
   tabled-more k l =
       ap (set (tabled c k f) (taskAt c k)) (sym here)
-      ∙ set-tabulate mostTasks (λ t. cond (ltb (position c t) k) (f t) 0) (λ t. cond (ltb (position c t) (suc k)) (f t) 0) (taskAt c k)
+      ∙ set-tabulate mostTasks (λ t. cond (ltb (position c t) k) (f t) 0) (λ t. cond (ltb (position c t) (suc k)) (f t) 0)
+      (taskAt c k)
       (λ t q. ap (λ (b : Bool). cond b (f t) 0) (other-below (position c t) k (λ e. q (stands t e))))
     where
       here : cond (ltb (position c (taskAt c k)) (suc k)) (f (taskAt c k)) 0 ≡ f (taskAt c k)

@@ -20,7 +20,8 @@ use Rattle.simulation.specs.Simulated.{timeIn}
 use Rattle.simulation.specs.Steps.{outsideAt, LowestOf}
 
 -- a position fails by the times that are read
-pub outside-by : (bcet wcet order chosen times : List ℕ) (i : ℕ) {best worst : ℕ} → best ≡ timeOf bcet (entryAt order i) (entryAt chosen i)
+pub outside-by : (bcet wcet order chosen times : List ℕ) (i : ℕ) {best worst : ℕ}
+    → best ≡ timeOf bcet (entryAt order i) (entryAt chosen i)
     → worst ≡ timeOf wcet (entryAt order i) (entryAt chosen i)
     → not (between best (timeIn times (entryAt order i)) worst) ≡ outsideAt bcet wcet order chosen times i
 unfolding outsideAt
@@ -37,7 +38,9 @@ module _ {n : ℕ} {order : List ℕ} {fails : ℕ → Bool} where
         let l = ltb-true (entryAt order k) r (and-right b _ h) in
         record {
           within = omega (arith, o .within, l);
-          passed = below-more (λ (i : ℕ). entryAt order i < entryAt order k → fails i ≡ false) k (λ i m x. o .passed i m (lt-trans x l))
+          passed =
+              below-more (λ (i : ℕ). entryAt order i < entryAt order k → fails i ≡ false) k
+              (λ i m x. o .passed i m (lt-trans x l))
               (λ x. absurd (omega arith));
           found = λ x. (k, omega arith, refl, sym e ∙ and-left b _ h);
         }

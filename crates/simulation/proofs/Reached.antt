@@ -38,15 +38,18 @@ use Rattle.simulation.proofs.ByTask.{tabled, tabled-none, tabled-more, 
 
 -- the loop has come to position k: the positions before it have started and finish, and hold their units;
 -- the tasks of `past` have finished by the last start
-pub record Reached (p : Plan) (c : Constraint) (d : ℕ → ℕ) (k last past response : ℕ) (starts finishes free : List ℕ) : Type 0 where
+pub record Reached (p : Plan) (c : Constraint) (d : ℕ → ℕ) (k last past response : ℕ)
+    (starts finishes free : List ℕ) : Type 0 where
   pub within : k ≤ p .tasks
   pub last-is : last ≡ after (startsOf p c d) k
-  pub past-over : (j : ℕ) → j < p .tasks → has past (taskAt c j) ≡ true → ends (startsOf p c d) (durations c d) j ≤ after (startsOf p c d) k
+  pub past-over : (j : ℕ) → j < p .tasks → has past (taskAt c j) ≡ true
+      → ends (startsOf p c d) (durations c d) j ≤ after (startsOf p c d) k
   pub response-is : response ≡ greatest k (ends (startsOf p c d) (durations c d))
   pub starts-are : starts ≡ tabled c k (startOf p c d)
   pub finishes-are : finishes ≡ tabled c k (finishOf p c d)
   pub room : length free ≡ mostTypes * mostUnits
-  pub booked : Booked (orderOf p c) (p .types) (ends (startsOf p c d) (durations c d)) k (after (startsOf p c d) k) (freeFrom free)
+  pub booked : Booked (orderOf p c) (p .types) (ends (startsOf p c d) (durations c d)) k (after (startsOf p c d) k)
+      (freeFrom free)
 
 module _ {p : Plan} {c : Constraint} (a : Accepted p c) (d : ℕ → ℕ) (positive : Lasting p d) where
   -- the starts and the times by position
@@ -71,12 +74,14 @@ module _ {p : Plan} {c : Constraint} (a : Accepted p c) (d : ℕ → ℕ) (posit
         starts-are = tabled-none c (startOf p c d);
         finishes-are = tabled-none c (finishOf p c d);
         room = length-replicate {A = ℕ} (mostTypes * mostUnits) 0;
-        booked = booked-none (orderOf p c) (p .types) (ends S D) _ (λ ty u l m. getD-replicate (mostTypes * mostUnits) (unitIndex ty u) 0 0 (unit-low ty u l m));
+        booked = booked-none (orderOf p c) (p .types) (ends S D) _
+            (λ ty u l m. getD-replicate (mostTypes * mostUnits) (unitIndex ty u) 0 0 (unit-low ty u l m));
       }
 
   -- ---- the next position
 
-  module _ {k last past response : ℕ} {starts finishes free : List ℕ} (r : Reached p c d k last past response starts finishes free) (low : k < p .tasks)
+  module _ {k last past response : ℕ} {starts finishes free : List ℕ}
+      (r : Reached p c d k last past response starts finishes free) (low : k < p .tasks)
       {index : ℕ} (f : FreeFirst free (typeAt c k) (getD (p .units) (typeAt c k) 0) index) where
     abbrev t : ℕ
     t = taskAt c k
@@ -101,10 +106,12 @@ module _ {p : Plan} {c : Constraint} (a : Accepted p c) (d : ℕ → ℕ) (posit
     over : (j : ℕ) → j < p .tasks → has needed (taskAt c j) ≡ true → ends S D j ≤ S k
     over j m h =
         let i = a .earlier k (taskAt c j) low (lt-of-lt-of-le (a .task j m) (a .few-tasks)) h in
-        open-now (orderOf p c) (greedy a d) k low .waited j (omega (arith, i .1, a .once (i .0) j (lt-trans (i .1) low) m (i .2))) h
+        open-now (orderOf p c) (greedy a d) k low .waited j
+        (omega (arith, i .1, a .once (i .0) j (lt-trans (i .1) low) m (i .2))) h
 
     -- a predecessor that is not looked at is past
-    waited : (j : ℕ) → j < k → has needed (taskAt c j) ≡ true → ends S D j ≤ max (after S k) (latestOf finishes (without needed past))
+    waited : (j : ℕ) → j < k → has needed (taskAt c j) ≡ true
+        → ends S D j ≤ max (after S k) (latestOf finishes (without needed past))
     unfolding latestOf
     waited j l h =
         let m : j < p .tasks = lt-trans l low in
@@ -128,11 +135,13 @@ module _ {p : Plan} {c : Constraint} (a : Accepted p c) (d : ℕ → ℕ) (posit
             (over (i .0) (lt-trans (i .1) low) (ap (has needed) (i .2) ∙ h)))
 
     -- the latest of the three is the start
-    pub next-start : {s looked w behind start : ℕ} → s ≡ needed → looked ≡ without s past → w ≡ latestOf finishes looked → behind ≡ max last w
+    pub next-start : {s looked w behind start : ℕ} → s ≡ needed → looked ≡ without s past → w ≡ latestOf finishes looked
+        → behind ≡ max last w
         → start ≡ max behind (getD free index 0) → start ≡ S k
     next-start ep el ew eb es =
         rw (es, eb, ew, el, ep, r .last-is, f .index-is)
-        (start-is (orderOf p c) (greedy a d) k low (p .types) (a .type k low) (freeFrom free) (r .booked) (f .unit) (f .low) (f .least)
+        (start-is (orderOf p c) (greedy a d) k low (p .types) (a .type k low) (freeFrom free) (r .booked) (f .unit) (f .low)
+        (f .least)
         _ waited looked-over)
 
     -- the unit has its place
@@ -142,13 +151,15 @@ module _ {p : Plan} {c : Constraint} (a : Accepted p c) (d : ℕ → ℕ) (posit
     -- another unit keeps its instant
     kept : (finish x v : ℕ) → x < p .types → v < getD (p .units) x 0 → (x ≡ ty → v ≡ f .unit → ⊥)
         → freeFrom (set free index finish) x v ≡ freeFrom free x v
-    kept finish x v l m h = getD-set-other free index (unitIndex x v) finish 0 (λ q. h (alike q) (omega (arith, alike q, f .index-is)))
+    kept finish x v l m h =
+        getD-set-other free index (unitIndex x v) finish 0 (λ q. h (alike q) (omega (arith, alike q, f .index-is)))
       where
         alike : unitIndex x v ≡ index → x ≡ ty
         alike q = omega (arith, q, f .index-is, f .low, a .few-units x l, a .few-units ty (a .type k low))
 
     pub reached-more : {s start time later : ℕ} → s ≡ needed → start ≡ S k → time ≡ d t → later ≡ max response (start + time)
-        → Reached p c d (k + 1) start (bitOr past s) later (set starts t start) (set finishes t (start + time)) (set free index (start + time))
+        → Reached p c d (k + 1) start (bitOr past s) later (set starts t start) (set finishes t (start + time))
+        (set free index (start + time))
     unfolding after greatest
     reached-more {s} {start} {time} {later} ep es et el =
         rw (add-one k)
@@ -157,8 +168,10 @@ module _ {p : Plan} {c : Constraint} (a : Accepted p c) (d : ℕ → ℕ) (posit
           last-is = es;
           past-over = past-here;
           response-is = el ∙ ap₂ max (r .response-is) finish-is;
-          starts-are = ap₂ (λ (xs : List ℕ) (y : ℕ). set xs t y) (r .starts-are) (es ∙ sym (ap S here)) ∙ tabled-more a (startOf p c d) k low;
-          finishes-are = ap₂ (λ (xs : List ℕ) (y : ℕ). set xs t y) (r .finishes-are) (finish-is ∙ ap (λ (i : ℕ). S i + d t) (sym here))
+          starts-are = ap₂ (λ (xs : List ℕ) (y : ℕ). set xs t y) (r .starts-are) (es ∙ sym (ap S here))
+              ∙ tabled-more a (startOf p c d) k low;
+          finishes-are =
+              ap₂ (λ (xs : List ℕ) (y : ℕ). set xs t y) (r .finishes-are) (finish-is ∙ ap (λ (i : ℕ). S i + d t) (sym here))
               ∙ tabled-more a (finishOf p c d) k low;
           room = length-set free index (start + time) ∙ r .room;
           booked = booked-here;
@@ -175,11 +188,14 @@ module _ {p : Plan} {c : Constraint} (a : Accepted p c) (d : ℕ → ℕ) (posit
             ⊎-elim (λ g. le-trans (r .past-over j m g) (greedy a d .order k low)) (λ g. over j m (rw ep at g))
             (or-cases _ _ (sym (has-or (taskAt c j) past s) ∙ h))
 
-        booked-here : Booked (orderOf p c) (p .types) (ends S D) (suc k) (after S (suc k)) (freeFrom (set free index (start + time)))
-        booked-here =
-            booked-more (orderOf p c) (greedy a d) k low (p .types) (a .type k low) (freeFrom free) (r .booked) (f .unit) (f .low) (f .least)
+        booked-here : Booked (orderOf p c) (p .types) (ends S D) (suc k) (after S (suc k))
             (freeFrom (set free index (start + time)))
-            (ap (λ (i : ℕ). getD (set free index (start + time)) i 0) (sym (f .index-is)) ∙ getD-set-same free index (start + time) 0 index-low ∙ finish-is)
+        booked-here =
+            booked-more (orderOf p c) (greedy a d) k low (p .types) (a .type k low) (freeFrom free) (r .booked) (f .unit)
+            (f .low) (f .least)
+            (freeFrom (set free index (start + time)))
+            (ap (λ (i : ℕ). getD (set free index (start + time)) i 0) (sym (f .index-is))
+            ∙ getD-set-same free index (start + time) 0 index-low ∙ finish-is)
             (kept (start + time))
 
   -- ---- the end
@@ -202,15 +218,14 @@ module _ {p : Plan} {c : Constraint} (a : Accepted p c) (d : ℕ → ℕ) (posit
       by-test (ltb t (p .tasks)) (λ e. rw (e, ended-finish a d positive t (ltb-true t (p .tasks) e)) refl)
       (λ e. rw (timed-closed a d positive (horizon p d), e) refl)
 
-  pub reached-end : {k last past response : ℕ} {starts finishes free : List ℕ} → Reached p c d k last past response starts finishes free → p .tasks ≤ k
+  pub reached-end : {k last past response : ℕ} {starts finishes free : List ℕ}
+      → Reached p c d k last past response starts finishes free → p .tasks ≤ k
       → record { number = 0; place = 0; response = response; starts = starts; finishes = finishes } ≡ ran p c d
   unfolding ran
   reached-end {k} r l =
-      rw (
-        r .response-is ∙ ap (λ (n : ℕ). greatest n (ends S D)) all ∙ sym (response-ends a d positive),
-        r .starts-are ∙ filled (startOf p c d) (λ t. orZero (ended p c d .start t)) ended-starts,
-        r .finishes-are ∙ filled (finishOf p c d) (λ t. orZero (ended p c d .finish t)) ended-finishes,
-      ) refl
+      rw (r .response-is ∙ ap (λ (n : ℕ). greatest n (ends S D)) all ∙ sym (response-ends a d positive))
+      (rw (r .starts-are ∙ filled (startOf p c d) (λ t. orZero (ended p c d .start t)) ended-starts)
+      (rw (r .finishes-are ∙ filled (finishOf p c d) (λ t. orZero (ended p c d .finish t)) ended-finishes) refl))
     where
       all : k ≡ p .tasks
       all = omega (arith, r .within)

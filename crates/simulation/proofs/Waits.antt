@@ -1,4 +1,5 @@
--- What a position waits for, as the loops find it: the latest finish of its predecessors, and the unit that is free first. Assumes nothing.
+-- What a position waits for, as the loops find it: the latest finish of its predecessors, and the unit that is free first.
+-- Assumes nothing.
 use mathlib.Core.Path.{_≡_, refl, sym, ap, subst}
 use mathlib.Core.Bool.{Bool, cond, and-true, and-false}
 use mathlib.Core.List.{List}
@@ -30,26 +31,35 @@ module _ (s : ℕ) (fits : s < 2 ^ width) (some : s ≡ 0 → ⊥) where
   low : t < width
   low = lowest-low s fits some
 
-  pub latest-more : (finishes : List ℕ) (m : ℕ) → max (max m (getD finishes t 0)) (latestOf finishes (remove s t)) ≡ max m (latestOf finishes s)
+  pub latest-more : (finishes : List ℕ) (m : ℕ) → max (max m (getD finishes t 0)) (latestOf finishes (remove s t))
+      ≡ max m (latestOf finishes s)
   unfolding latestOf
   latest-more finishes m =
       omega (
         arith,
-        greatest-apart width (λ i. cond (has s i) (getD finishes i 0) 0) (λ i. cond (has (remove s t) i) (getD finishes i 0) 0) t low gone kept,
+        greatest-apart width (λ i. cond (has s i) (getD finishes i 0) 0)
+            (λ i. cond (has (remove s t) i) (getD finishes i 0) 0) t low gone kept,
         ap (λ (b : Bool). cond b (getD finishes t 0) 0) (lowest-member s fits some),
       )
     where
       gone : cond (has (remove s t) t) (getD finishes t 0) 0 ≡ 0
       gone = rw (has-remove s t t low, eq-eqb t t refl, and-false (has s t)) refl
 
-      kept : (i : ℕ) → i < width → (i ≡ t → ⊥) → cond (has s i) (getD finishes i 0) 0 ≡ cond (has (remove s t) i) (getD finishes i 0) 0
+      kept : (i : ℕ) → i < width → (i ≡ t → ⊥) → cond (has s i) (getD finishes i 0) 0
+          ≡ cond (has (remove s t) i) (getD finishes i 0) 0
       kept i l f = rw (has-remove s t i low, ne-eqb t i (λ e. f (sym e)), and-true (has s i)) refl
 
 -- ---- the unit that is free first of those looked at
 
 pub first-one : (free : List ℕ) (ty : ℕ) → FreeFirst free ty 1 (ty * mostUnits)
 first-one free ty =
-    record { unit = 0; low = le-refl 1; index-is = sym (add-zero (ty * mostUnits)); least = λ u l. let e : u ≡ 0 = omega arith in rw e (le-refl _) }
+    record {
+      unit = 0;
+      low = le-refl 1;
+      index-is = sym (add-zero (ty * mostUnits));
+      least = λ u l. let e : u
+          ≡ 0 = omega arith in rw e (le-refl _);
+    }
 
 module _ (free : List ℕ) (ty n index : ℕ) (f : FreeFirst free ty n index) where
   -- the next one is free no earlier
@@ -70,7 +80,8 @@ module _ (free : List ℕ) (ty n index : ℕ) (f : FreeFirst free ty n index) wh
         unit = n;
         low = omega arith;
         index-is = refl;
-        least = below-more (λ (u : ℕ). freeFrom free ty n ≤ freeFrom free ty u) n (λ u h. le-trans (le-of-lt m) (f .least u h)) (le-refl _);
+        least = below-more (λ (u : ℕ). freeFrom free ty n ≤ freeFrom free ty u) n
+            (λ u h. le-trans (le-of-lt m) (f .least u h)) (le-refl _);
       }
 
   -- its place is in the array

@@ -39,7 +39,8 @@ pub fn first_outside<'a>(
 ) -> usize
     requires { ⌜ Positions (now order) (now chosen) tasks × (length (now times) ≡ tasks) ⌝ }
     ensures { λ r. ⌜ LowestOf tasks (now (order .entry))
-        (outsideAt (now (bcet .entry)) (now (wcet .entry)) (now (order .entry)) (now (chosen .entry)) (now (times .entry))) tasks r ⌝ }
+        (outsideAt (now (bcet .entry)) (now (wcet .entry)) (now (order .entry)) (now (chosen .entry)) (now (times .entry)))
+        tasks r ⌝ }
 {
     let mut lowest = tasks;
     let mut k = 0;

@@ -78,7 +78,8 @@ pub any-intro : (n : ℕ) (p : ℕ → Bool) (i : ℕ) → i < n → p i ≡ tru
 unfolding any
 any-intro zero p i l e = absurd (not-suc-le-zero l)
 any-intro (suc n) p i l e =
-    below-suc (λ i. p i ≡ true → any n p || p n ≡ true) n (λ i m f. or-left (p n) (any-intro n p i m f)) (or-right (any n p)) i l e
+    below-suc (λ i. p i ≡ true → any n p || p n ≡ true) n (λ i m f. or-left (p n) (any-intro n p i m f))
+    (or-right (any n p)) i l e
 
 pub any-none : (n : ℕ) (p : ℕ → Bool) → ((i : ℕ) → i < n → p i ≡ false) → any n p ≡ false
 unfolding any
@@ -93,7 +94,8 @@ unfolding any
 any-elim zero p e = absurd (clash e refl)
 any-elim (suc n) p e = go (or-cases (any n p) (p n) e) (any-elim n p)
   where
-    go : (any n p ≡ true) ⊎ (p n ≡ true) → (any n p ≡ true → (i : ℕ) × (i < n) × (p i ≡ true)) → (i : ℕ) × (i < suc n) × (p i ≡ true)
+    go : (any n p ≡ true) ⊎ (p n ≡ true) → (any n p ≡ true → (i : ℕ) × (i < n) × (p i ≡ true))
+        → (i : ℕ) × (i < suc n) × (p i ≡ true)
     go (inl f) ih = let r = ih f in (r .0, le-step (r .1), r .2)
     go (inr f) ih = (n, lt-suc-self n, f)
 
@@ -134,7 +136,8 @@ count-front (suc n) p = omega (arith, count-front n p)
 pub count-none : (n : ℕ) (p : ℕ → Bool) → ((i : ℕ) → i < n → p i ≡ false) → count n p ≡ 0
 unfolding count
 count-none zero p h = refl
-count-none (suc n) p h = ap₂ (λ (k : ℕ) (b : Bool). k + cond b 1 0) (count-none n p (λ i l. h i (le-step l))) (h n (lt-suc-self n))
+count-none (suc n) p h =
+    ap₂ (λ (k : ℕ) (b : Bool). k + cond b 1 0) (count-none n p (λ i l. h i (le-step l))) (h n (lt-suc-self n))
 
 pub count-le : (n : ℕ) (p : ℕ → Bool) → count n p ≤ n
 unfolding count

@@ -7,7 +7,8 @@ use lib.Dec.{eqb}
 use Rattle.task_set.specs.Bounded.{any, count}
 use Rattle.task_set.proofs.Bounded.{any-elim, count-none, count-more, count-full}
 
-module _ (n : ℕ) (f : ℕ → ℕ) (low : (i : ℕ) → i < n → f i < n) (new : (i : ℕ) → i < n → any i (λ j. eqb (f j) (f i)) ≡ false) where
+module _ (n : ℕ) (f : ℕ → ℕ) (low : (i : ℕ) → i < n → f i < n)
+    (new : (i : ℕ) → i < n → any i (λ j. eqb (f j) (f i)) ≡ false) where
   -- there are as many numbers among the first i as there are places
   pub counted : (i : ℕ) → i ≤ n → count n (λ t. any i (λ j. eqb (f j) t)) ≡ i
   unfolding any

@@ -223,10 +223,12 @@ implies-meet true y e = e
 implies-meet false y e = refl
 
 -- a mask keeps a whole exactly if each member passes
-kept : (k a m : ℕ) (q : ℕ → Bool) → a < 2 ^ k → m < 2 ^ k → ((t : ℕ) → has m t ≡ has a t && q t) → eqb m a ≡ all k (λ t. implies (has a t) (q t))
+kept : (k a m : ℕ) (q : ℕ → Bool) → a < 2 ^ k → m < 2 ^ k → ((t : ℕ) → has m t ≡ has a t && q t)
+    → eqb m a ≡ all k (λ t. implies (has a t) (q t))
 kept k a m q ha hm h =
     same (eqb m a) (all k (λ t. implies (has a t) (q t)))
-    (λ e. all-intro k (λ t. implies (has a t) (q t)) (λ t l. meet-implies (has a t) (q t) (sym (h t) ∙ ap (λ (x : ℕ). has x t) (eqb-true m a e))))
+    (λ e. all-intro k (λ t. implies (has a t) (q t))
+    (λ t l. meet-implies (has a t) (q t) (sym (h t) ∙ ap (λ (x : ℕ). has x t) (eqb-true m a e))))
     (λ e. eq-eqb m a
     (set-ext k m a hm ha (λ t l. h t ∙ implies-meet (has a t) (q t) (all-elim k (λ t. implies (has a t) (q t)) e t l))))
 
@@ -242,7 +244,8 @@ below-mask k s n l = kept k s (below s n) (λ t. ltb t n) l (lt-of-le-of-lt (mod
 pub apart-mask : (k a b : ℕ) → a < 2 ^ k → eqb (bitAnd a b) 0 ≡ all k (λ t. not (has a t && has b t))
 apart-mask k a b l =
     same (eqb (bitAnd a b) 0) (all k (λ t. not (has a t && has b t)))
-    (λ e. all-intro k (λ t. not (has a t && has b t)) (λ t m. ap not (sym (has-and t a b) ∙ ap (λ (x : ℕ). has x t) (eqb-true _ _ e) ∙ has-none t)))
+    (λ e. all-intro k (λ t. not (has a t && has b t))
+    (λ t m. ap not (sym (has-and t a b) ∙ ap (λ (x : ℕ). has x t) (eqb-true _ _ e) ∙ has-none t)))
     (λ e. eq-eqb (bitAnd a b) 0
     (set-ext k (bitAnd a b) 0 (lt-of-le-of-lt (and-le-l a b) l) (pow-pos k)
     (λ t m. has-and t a b ∙ not-true _ (all-elim k (λ t. not (has a t && has b t)) e t m) ∙ sym (has-none t))))
@@ -266,7 +269,8 @@ lowest-first s = first-is width (has s)
 
 -- a set that is not empty has a lowest member
 pub lowest-low : (s : ℕ) → s < 2 ^ width → (s ≡ 0 → ⊥) → lowest s < width
-lowest-low s h f = by-test (ltb (lowest s) width) (ltb-true _ _) (λ e. absurd (f (set-ext width s 0 h (pow-pos width) (none (ltb-false _ _ e)))))
+lowest-low s h f =
+    by-test (ltb (lowest s) width) (ltb-true _ _) (λ e. absurd (f (set-ext width s 0 h (pow-pos width) (none (ltb-false _ _ e)))))
   where
     none : width ≤ lowest s → (t : ℕ) → t < width → has s t ≡ has 0 t
     none l t m = lowest-first s .searched .before t (lt-of-lt-of-le m l) ∙ sym (has-none t)
@@ -286,13 +290,15 @@ ones-count (suc k) s h =
     ∙ sym (count-front k (has s))
 
 pub ones-masked : (k s m : ℕ) → bitAnd s m < 2 ^ k → ones (bitAnd s m) ≡ count k (λ t. has s t && has m t)
-ones-masked k s m h = ones-count k (bitAnd s m) h ∙ count-cong k (has (bitAnd s m)) (λ t. has s t && has m t) (λ t l. has-and t s m)
+ones-masked k s m h =
+    ones-count k (bitAnd s m) h ∙ count-cong k (has (bitAnd s m)) (λ t. has s t && has m t) (λ t l. has-and t s m)
 
 -- a set without one of its members has one member fewer
 pub size-remove : (s t : ℕ) → t < width → has s t ≡ true → size s ≡ suc (size (remove s t))
 unfolding size
 size-remove s t l e =
-    count-cong width (has s) (λ i. has (remove s t) i || eqb t i) (λ i m. sym (ap (λ (b : Bool). b || eqb t i) (has-remove s t i l) ∙ go i (eqb t i) refl))
+    count-cong width (has s) (λ i. has (remove s t) i || eqb t i)
+    (λ i m. sym (ap (λ (b : Bool). b || eqb t i) (has-remove s t i l) ∙ go i (eqb t i) refl))
     ∙ count-more width (has (remove s t)) t l (has-remove s t t l ∙ rw (eq-eqb t t refl) (and-false (has s t)))
   where
     go : (i : ℕ) (b : Bool) → eqb t i ≡ b → (has s i && not b) || b ≡ has s i

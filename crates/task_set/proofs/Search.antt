@@ -36,7 +36,8 @@ first-is (suc n) p = go (p 0) refl (first-is n (λ i. p (suc i)))
     later r zero e h l = e
     later r (suc j) e h l = h j (le-of-suc-le-suc l)
 
-    go : (b : Bool) → p 0 ≡ b → First n (λ i. p (suc i)) (first n (λ i. p (suc i))) → First (suc n) p (cond b 0 (suc (first n (λ i. p (suc i)))))
+    go : (b : Bool) → p 0 ≡ b → First n (λ i. p (suc i)) (first n (λ i. p (suc i)))
+        → First (suc n) p (cond b 0 (suc (first n (λ i. p (suc i)))))
     go true e f =
         record { searched = record { within = zero-le; before = λ j l. absurd (not-suc-le-zero l) }; passes = λ l. e }
     go false e f =
@@ -55,7 +56,8 @@ not-before n p r s f g l = clash (f .passes (lt-of-lt-of-le l (g .within))) (g .
 pub first-unique : (n : ℕ) (p : ℕ → Bool) (r : ℕ) → First n p r → r ≡ first n p
 first-unique n p r f =
     by-test (ltb r (first n p)) (λ e. absurd (not-before n p r (first n p) f (first-is n p .searched) (ltb-true r (first n p) e)))
-    (λ e. by-test (ltb (first n p) r) (λ g. absurd (not-before n p (first n p) r (first-is n p) (f .searched) (ltb-true (first n p) r g)))
+    (λ e. by-test (ltb (first n p) r)
+    (λ g. absurd (not-before n p (first n p) r (first-is n p) (f .searched) (ltb-true (first n p) r g)))
     (λ g. omega (arith, ltb-false r (first n p) e, ltb-false (first n p) r g)))
 
 pub first-cong : (n : ℕ) (p q : ℕ → Bool) → ((i : ℕ) → i < n → p i ≡ q i) → first n p ≡ first n q

@@ -40,10 +40,12 @@ replicate-tabulate zero a = refl
 replicate-tabulate (suc n) a = ap₂ _∷_ refl (replicate-tabulate n a)
 
 -- the table of f with g i put at i is the table of g, where g is f elsewhere
-pub set-tabulate : {A : Type 0} (n : ℕ) (f g : ℕ → A) (i : ℕ) → ((j : ℕ) → (j ≡ i → ⊥) → f j ≡ g j) → set (tabulate n f) i (g i) ≡ tabulate n g
+pub set-tabulate : {A : Type 0} (n : ℕ) (f g : ℕ → A) (i : ℕ) → ((j : ℕ) → (j ≡ i → ⊥) → f j ≡ g j)
+    → set (tabulate n f) i (g i) ≡ tabulate n g
 unfolding tabulate
 set-tabulate zero f g i h = refl
 set-tabulate (suc n) f g zero h =
     ap₂ _∷_ refl (tabulate-cong n (λ j. f (suc j)) (λ j. g (suc j)) (λ j l. h (suc j) (λ e. omega arith)))
 set-tabulate (suc n) f g (suc i) h =
-    ap₂ _∷_ (h 0 (λ e. omega arith)) (set-tabulate n (λ j. f (suc j)) (λ j. g (suc j)) i (λ j q. h (suc j) (λ e. q (omega arith))))
+    ap₂ _∷_ (h 0 (λ e. omega arith))
+    (set-tabulate n (λ j. f (suc j)) (λ j. g (suc j)) i (λ j q. h (suc j) (λ e. q (omega arith))))

@@ -15,7 +15,8 @@ abbrev took : tie.After-chosen-times → tie.Else1
 took c = c .before .before .before .before .before .before
 
 returns : tie.Need-returns
-returns c = with-sum _ _ (c .not-run .ensures ∙ bound-refused _ _ (c .before .before .before .check .ensures) (c .before .if1 .taken))
+returns c =
+    with-sum _ _ (c .not-run .ensures ∙ bound-refused _ _ (c .before .before .before .check .ensures) (c .before .if1 .taken))
 
 returns-2 : tie.Need-returns-2
 returns-2 c =

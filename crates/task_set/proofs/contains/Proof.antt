@@ -12,4 +12,5 @@ unfolding has
 returns-2 c = rw (and-mask _ 1)
 
 pub contains-spec : {M : Type 1} → statement M
-contains-spec = tie.close (tie.spec (λ c. sym (has-past 64 _ (c .before .fits .s .fits) (c .if1 .taken))) (λ c. search needs) returns-2)
+contains-spec =
+    tie.close (tie.spec (λ c. sym (has-past 64 _ (c .before .fits .s .fits) (c .if1 .taken))) (λ c. search needs) returns-2)

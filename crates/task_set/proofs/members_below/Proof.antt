@@ -18,4 +18,5 @@ unfolding below
 returns-2 c = rw (shifted-one _ (c .if1 .left)) (and-mask _ _)
 
 pub members-below-spec : {M : Type 1} → statement M
-members-below-spec = tie.close (tie.spec returns (λ c. search needs) (λ c. rw (shifted-one _ (c .if1 .left)) (pow-pos _)) returns-2)
+members-below-spec =
+    tie.close (tie.spec returns (λ c. search needs) (λ c. rw (shifted-one _ (c .if1 .left)) (pow-pos _)) returns-2)

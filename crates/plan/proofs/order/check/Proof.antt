@@ -41,8 +41,14 @@ returns-3 c =
     let u = m .before .before .before .before .before in
     let s = searched u in
     let e = counted s in
-    rw (c .unless-at3 .ensures, c .before .unless-at2 .ensures, c .before .before .unless-at .ensures, c .before .before .before .refused3 .ensures)
-    (order-by _ _ (kept (e .before)) (e .if2 .left) (s .first-misplaced .ensures) (u .first-unusable .ensures) (m .first-unmet .ensures))
+    rw (
+      c .unless-at3 .ensures,
+      c .before .unless-at2 .ensures,
+      c .before .before .unless-at .ensures,
+      c .before .before .before .refused3 .ensures,
+    )
+    (order-by _ _ (kept (e .before)) (e .if2 .left) (s .first-misplaced .ensures) (u .first-unusable .ensures)
+    (m .first-unmet .ensures))
 
 pub check-spec : {M : Type 1} → statement M
 check-spec =

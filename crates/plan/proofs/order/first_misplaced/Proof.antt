@@ -17,13 +17,15 @@ abbrev μ-loop : tie.MeasureT-loop
 returns : tie.Need-returns Inv-loop μ-loop
 returns c =
     let l = c .before .before .before .before in
-    search-found (l .loop .inv .0) (sym (misplaced-by (l .loop .inv .1) (l .before .pre .1) (c .before .contains .ensures)) ∙ c .if1 .taken)
+    search-found (l .loop .inv .0) (sym (misplaced-by (l .loop .inv .1) (l .before .pre .1) (c .before .contains .ensures))
+    ∙ c .if1 .taken)
 
 loop-again : tie.Need-loop-again Inv-loop μ-loop
 loop-again c =
     let l = c .before .before .before .before .before in (
       searched-more (l .loop .inv .0) (c .before .before .before .before .loop-test .taken)
-          (sym (misplaced-by (l .loop .inv .1) (l .before .pre .1) (c .before .before .contains .ensures)) ∙ c .before .if1 .left),
+          (sym (misplaced-by (l .loop .inv .1) (l .before .pre .1) (c .before .before .contains .ensures))
+          ∙ c .before .if1 .left),
       rw (c .inserted .ensures) (holds-more (l .loop .inv .1)),
     )
 

@@ -18,13 +18,15 @@ returns : tie.Need-returns Inv-loop μ-loop
 returns c =
     let l = c .before .before .before .before .before in
     search-found (l .loop .inv .0)
-    (sym (unmet-by (l .loop .inv .1) _ (c .before .before .predecessors-of .ensures) (c .before .is-subset .ensures)) ∙ c .if1 .taken)
+    (sym (unmet-by (l .loop .inv .1) _ (c .before .before .predecessors-of .ensures) (c .before .is-subset .ensures))
+    ∙ c .if1 .taken)
 
 loop-again : tie.Need-loop-again Inv-loop μ-loop
 loop-again c =
     let l = c .before .before .before .before .before .before in (
       searched-more (l .loop .inv .0) (c .before .before .before .before .before .loop-test .taken)
-          (sym (unmet-by (l .loop .inv .1) _ (c .before .before .before .predecessors-of .ensures) (c .before .before .is-subset .ensures)) ∙ c .before .if1 .left),
+          (sym (unmet-by (l .loop .inv .1) _ (c .before .before .before .predecessors-of .ensures)
+          (c .before .before .is-subset .ensures)) ∙ c .before .if1 .left),
       rw (c .inserted .ensures) (holds-more (l .loop .inv .1)),
     )
 

@@ -15,7 +15,9 @@ abbrev μ-loop : tie.MeasureT-loop
 μ-loop types wcet order chosen len i₀ i = len - i
 
 returns : tie.Need-returns Inv-loop μ-loop
-returns c = let l = c .before .before .before .before .before in search-found (l .loop .inv) (sym (unusable-by _ _ _ _ _ (c .before .is-usable .ensures)) ∙ c .if1 .taken)
+returns c =
+    let l = c .before .before .before .before .before in search-found (l .loop .inv)
+    (sym (unusable-by _ _ _ _ _ (c .before .is-usable .ensures)) ∙ c .if1 .taken)
 
 loop-again : tie.Need-loop-again Inv-loop μ-loop
 loop-again c =

@@ -21,7 +21,9 @@ unfolding all
 loop-holds c = upto-none refl
 
 loop-again : tie.Need-loop-again Inv-loop μ-loop
-loop-again c = upto-more (c .before .loop-test .taken) (ap₂ _&&_ (c .before .before .loop .inv .is) (c .units-ok .ensures) ∙ sym (all-next _ _))
+loop-again c =
+    upto-more (c .before .loop-test .taken)
+    (ap₂ _&&_ (c .before .before .loop .inv .is) (c .units-ok .ensures) ∙ sym (all-next _ _))
 
 pub all-units-ok-spec : {M : Type 1} → statement M
 all-units-ok-spec =

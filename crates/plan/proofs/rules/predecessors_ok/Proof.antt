@@ -6,7 +6,9 @@ use Rattle.plan.proofs.rules.predecessors_ok.Statement.{statement}
 use Rattle.plan.proofs.rules.predecessors_ok.Tie as tie
 
 returns : tie.Need-returns
-returns c = predecessors-ok-by _ _ _ (omega arith) (c .before .before .predecessors-of .ensures) (c .before .members-below .ensures) (c .contains .ensures)
+returns c =
+    predecessors-ok-by _ _ _ (omega arith) (c .before .before .predecessors-of .ensures) (c .before .members-below .ensures)
+    (c .contains .ensures)
 
 pub predecessors-ok-spec : {M : Type 1} → statement M
 predecessors-ok-spec =

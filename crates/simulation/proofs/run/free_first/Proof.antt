@@ -15,7 +15,8 @@ abbrev μ-loop : tie.MeasureT-loop
 μ-loop free ty units base best₀ u₀ best u = units - u
 
 mul-if1-2 : tie.Need-mul-if1-2 Inv-loop μ-loop
-mul-if1-2 c = let l = c .before .before in omega (arith, first-in-array _ _ _ _ (l .loop .inv .1) (l .before .pre .0) (search needs))
+mul-if1-2 c =
+    let l = c .before .before in omega (arith, first-in-array _ _ _ _ (l .loop .inv .1) (l .before .pre .0) (search needs))
 
 loop-again : tie.Need-loop-again Inv-loop μ-loop
 loop-again c =

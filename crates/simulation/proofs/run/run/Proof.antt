@@ -55,11 +55,13 @@ in-array c =
 
 -- the latest of the three is the start of the position
 start-here : (c : tie.After-later2 Inv-loop μ-loop) (d : ℕ → ℕ)
-    → let g = start (turn c) .args in Listed (g .t1) (g .times .now) d → c .later2 .result ≡ startsOf (g .t1) (g .t2) d (turn c .before .loop .k)
+    → let g = start (turn c) .args in Listed (g .t1) (g .times .now) d
+    → c .later2 .result ≡ startsOf (g .t1) (g .t2) d (turn c .before .loop .k)
 start-here c d h =
     let i = turn c in
     next-start (taken (start i)) d (lasts (start i) d h) (i .before .loop .inv d h) (i .loop-test .taken)
-    (known c .before .before .before .free-first .ensures) (known c .predecessors-of .ensures) (c .before .before .before .difference .ensures)
+    (known c .before .before .before .free-first .ensures) (known c .predecessors-of .ensures)
+    (c .before .before .before .difference .ensures)
     (c .before .before .latest-finish .ensures) (c .before .later .ensures) (c .later2 .ensures)
 
 add-finish : tie.Need-add-finish Inv-loop μ-loop
@@ -77,7 +79,8 @@ loop-again c = λ d h.
     let l = c .before .before in
     let i = turn l in
     reached-more (taken (start i)) d (lasts (start i) d h) (i .before .loop .inv d h) (i .loop-test .taken)
-    (known l .before .before .before .free-first .ensures) (known l .predecessors-of .ensures) (start-here l d h) (h _ (task-low i))
+    (known l .before .before .before .free-first .ensures) (known l .predecessors-of .ensures) (start-here l d h)
+    (h _ (task-low i))
     (c .later3 .ensures)
 
 returns : tie.Need-returns Inv-loop μ-loop
@@ -98,15 +101,18 @@ of-type c = lt-of-lt-of-le (type-low c) (taken (start c) .few-types)
 pub run-spec : {M : Type 1} → statement M
 run-spec =
     tie.close (tie.spec Inv-loop μ-loop (λ c. λ d h. reached-none (taken (c .before)) d (lasts (c .before) d h))
-    (λ c. omega (arith, few c)) (λ c. omega (arith, few c)) (λ c. omega (arith, few (c .before))) (λ c. omega (arith, few (c .before)))
+    (λ c. omega (arith, few c)) (λ c. omega (arith, few c)) (λ c. omega (arith, few (c .before)))
+    (λ c. omega (arith, few (c .before)))
     (λ c. omega (arith, of-type (c .before .before .before))) (λ c. of-type (c .before .before .before))
     (λ c κs. let i = c .before .before .before .before in let a = taken (start i) in
     (of-type i, (a .some-units _ (type-low i), a .few-units _ (type-low i))))
     (λ c κs. search needs) (λ c κs. search needs) (λ c κs. search needs) (λ c κs. search needs)
     (λ c. omega (arith, in-array (c .before .before .before .before .before .before .before)))
     (λ c. in-array (c .before .before .before .before .before .before .before)) (λ c κs. search needs)
-    (λ c. omega (arith, low (turn c))) (λ c. lt-of-lt-of-le (task-low (turn (c .before))) (start (turn (c .before)) .pre .enough)) add-finish
+    (λ c. omega (arith, low (turn c)))
+    (λ c. lt-of-lt-of-le (task-low (turn (c .before))) (start (turn (c .before)) .pre .enough)) add-finish
     (λ c. omega (arith, low (turn (c .before)))) (λ c. low (turn (c .before)))
     (λ c. omega (arith, low (turn (c .before)))) (λ c. low (turn (c .before)))
-    (λ c. omega (arith, in-array (known (c .before) .before .before .before))) (λ c. in-array (known (c .before) .before .before .before))
+    (λ c. omega (arith, in-array (known (c .before) .before .before .before)))
+    (λ c. in-array (known (c .before) .before .before .before))
     (λ c κs. search needs) (λ c. search needs) (λ c. search needs) loop-again returns)

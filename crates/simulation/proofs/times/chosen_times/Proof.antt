@@ -15,15 +15,21 @@ abbrev μ-loop : tie.MeasureT-loop
 μ-loop times order chosen len by-task₀ k₀ by-task k = len - k
 
 mul-by-task : tie.Need-mul-by-task Inv-loop μ-loop
-mul-by-task c = let o = c .before .before .before .before .before .pre in omega (arith, o .few, o .task _ (c .before .before .before .loop-test .taken))
+mul-by-task c =
+    let o = c .before .before .before .before .before .pre in omega
+    (arith, o .few, o .task _ (c .before .before .before .loop-test .taken))
 
 array-write-by-task : tie.Need-array-write-by-task Inv-loop μ-loop
-array-write-by-task c = let o = c .before .before .before .before .before .pre in lt-of-lt-of-le (o .task _ (c .before .before .before .loop-test .taken)) (o .few)
+array-write-by-task c =
+    let o = c .before .before .before .before .before .pre in lt-of-lt-of-le
+    (o .task _ (c .before .before .before .loop-test .taken)) (o .few)
 
 loop-again : tie.Need-loop-again Inv-loop μ-loop
 loop-again c =
-    let l = c .before .before .before .before in
-    (search needs, chosen-more (l .before .pre) (c .before .before .before .loop-test .taken) (l .loop .inv .1) (c .time-of .ensures))
+    let l = c .before .before .before .before in (
+      search needs,
+      chosen-more (l .before .pre) (c .before .before .before .loop-test .taken) (l .loop .inv .1) (c .time-of .ensures),
+    )
 
 pub chosen-times-spec : {M : Type 1} → statement M
 chosen-times-spec =

@@ -16,10 +16,14 @@ abbrev μ-loop : tie.MeasureT-loop
 μ-loop bcet wcet order chosen times tasks lowest₀ k₀ lowest k = tasks - k
 
 mul-x : tie.Need-mul-x Inv-loop μ-loop
-mul-x c = let o = c .before .before .before .before .before .pre .0 in omega (arith, o .few, o .task _ (c .before .before .loop-test .taken))
+mul-x c =
+    let o = c .before .before .before .before .before .pre .0 in omega
+    (arith, o .few, o .task _ (c .before .before .loop-test .taken))
 
 shared-slice-read-x : tie.Need-shared-slice-read-x Inv-loop μ-loop
-shared-slice-read-x c = let o = c .before .before .before .before .before .before .pre in omega (arith, o .0 .task _ (c .before .before .before .loop-test .taken))
+shared-slice-read-x c =
+    let o = c .before .before .before .before .before .before .pre in omega
+    (arith, o .0 .task _ (c .before .before .before .loop-test .taken))
 
 loop-again : tie.Need-loop-again Inv-loop μ-loop
 loop-again c =
