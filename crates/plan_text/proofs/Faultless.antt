@@ -51,9 +51,3 @@ module _ {line : Line} (e : outOfRange line ≡ false) where
 
   pub choice-task : {t k : ℕ} → line ≡ Choice t k → t < mostTasks
   choice-task {t} f = ltb-true t mostTasks (and-left (isTask t) _ (not-false _ (in-range f)))
-
--- a U line has the next type
-pub next-type : (r : Reading) {line : Line} → Passed r line → (k n : ℕ) → line ≡ Units k n → r .plan .types < mostTypes
-next-type r p k n f =
-    let e = eqb-true k (r .plan .types) (not-false _ (sym (ap (unknown (r .plan .types) (r .seen .timed)) f) ∙ p .known)) in
-    omega (arith, units-type (p .range) f)

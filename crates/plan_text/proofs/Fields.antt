@@ -40,14 +40,16 @@ module _ {s : List ℕ} {n v : ℕ} (d : Digits s n v) where
   pub value-fits : v < 100000
   value-fits = omega (arith, d .small, pow-le-pow-right {n = 10} (lit< tt) (d .few))
 
-  pub digits-more : n < length s → (n ≡ mostDigits → ⊥) → isDigit (getD s n 0) ≡ true → Digits s (n + 1) (v * 10 + digitValue (getD s n 0))
+  pub digits-more : n < length s → (n ≡ mostDigits → ⊥) → isDigit (getD s n 0) ≡ true
+      → Digits s (n + 1) (v * 10 + digitValue (getD s n 0))
   digits-more l f e =
       let t : take (n + 1) s ≡ take n s ++ (getD s n 0 ∷ []) = rw (add-one n) (take-suc s n 0 l) in
       record {
         within = omega arith;
         few = omega (arith, d .few);
         digits = ap (every isDigit) t ∙ all-last (take n s) (getD s n 0) ∙ and-both (d .digits) e;
-        value = ap (λ (x : ℕ). x * 10 + digitValue (getD s n 0)) (d .value) ∙ sym (ap (valueFrom 0) t ∙ value-last 0 (take n s) (getD s n 0));
+        value = ap (λ (x : ℕ). x * 10 + digitValue (getD s n 0)) (d .value)
+            ∙ sym (ap (valueFrom 0) t ∙ value-last 0 (take n s) (getD s n 0));
         small = rw (add-one n) (omega (arith, d .small, digit-small (getD s n 0) e, pow-succ' 10 n));
       }
 
@@ -70,7 +72,8 @@ module _ {s : List ℕ} {n v : ℕ} (d : Digits s n v) where
   unfolding fieldOf isField
   field-ended f =
       let l : 1 ≤ n = omega (arith, f) in
-      rw (long, d .digits, le-leb 1 n l, le-leb n mostDigits (d .few), getD-take n s 0 0 l, ← d .value, lead (eqb (getD s 0 0) 48) l)
+      rw (long, d .digits, le-leb 1 n l, le-leb n mostDigits (d .few), getD-take n s 0 0 l, ← d .value)
+      (rw (lead (eqb (getD s 0 0) 48) l))
 
 -- ---- what is no field
 
@@ -91,4 +94,6 @@ module _ (s : List ℕ) (n : ℕ) (l : n < partLength tab s) where
 
   pub field-long : n ≡ mostDigits → fieldOf (firstPart tab s) ≡ NoField
   unfolding fieldOf isField
-  field-long e = rw (lt-leb (length (firstPart tab s)) mostDigits (omega (arith, part-length tab s)), and-false (leb 1 (length (firstPart tab s))))
+  field-long e =
+      rw (lt-leb (length (firstPart tab s)) mostDigits (omega (arith, part-length tab s)))
+      (rw (and-false (leb 1 (length (firstPart tab s)))))

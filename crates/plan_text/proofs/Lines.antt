@@ -64,7 +64,8 @@ module _ (t : List ℕ) (n : ℕ) (vs : List ℕ) where
 
     pub fields-more : k < length t → fieldsFrom (split tab t) n vs ≡ fieldsFrom (split tab (drop (k + 1) t)) (n + 1) (set vs n v)
     fields-more f =
-        ap (λ (x : List (List ℕ)). fieldsFrom x n vs) (split-more tab t (omega (arith, taken t v k e))) ∙ next (split tab (drop (partLength tab t + 1) t))
+        ap (λ (x : List (List ℕ)). fieldsFrom x n vs) (split-more tab t (omega (arith, taken t v k e)))
+        ∙ next (split tab (drop (partLength tab t + 1) t))
         ∙ ap (λ (x : ℕ). fieldsFrom (split tab (drop (x + 1) t)) (n + 1) (set vs n v)) (taken t v k e)
 
 -- ---- the line
@@ -96,7 +97,8 @@ module _ (letter : ℕ) where
   unfolding formOf
   too-many n v l = simp (ne-eqb n 2 (λ e. omega arith), ne-eqb n 4 (λ e. omega arith), and-false)
 
-  all-forms : (parts : List (List ℕ)) → every isField parts ≡ true → formOf letter (length parts) (valueAt parts) ≡ formFrom letter (fieldsOf parts)
+  all-forms : (parts : List (List ℕ)) → every isField parts ≡ true
+      → formOf letter (length parts) (valueAt parts) ≡ formFrom letter (fieldsOf parts)
   unfolding every fieldsFrom formOf valueFrom
   all-forms [] e = refl
   all-forms (p ∷ []) e = rw (and-left (isField p) _ e)
@@ -115,7 +117,8 @@ module _ (letter : ℕ) where
       go [] = refl
       go (t ∷ rest) = too-many (length (p ∷ q ∷ r ∷ s ∷ t ∷ rest)) (valueAt (p ∷ q ∷ r ∷ s ∷ t ∷ rest)) (omega arith)
 
-  forms : (parts : List (List ℕ)) → cond (every isField parts) (formOf letter (length parts) (valueAt parts)) NoForm ≡ formFrom letter (fieldsOf parts)
+  forms : (parts : List (List ℕ))
+      → cond (every isField parts) (formOf letter (length parts) (valueAt parts)) NoForm ≡ formFrom letter (fieldsOf parts)
   forms parts =
       by-test (every isField parts) (λ e. rw e (all-forms parts e))
       (λ e. rw (e, fields-off parts 0 (noFields .values) e) (sym (no-form _)))
@@ -141,11 +144,13 @@ line-untabbed (b ∷ []) l f = absurd (omega arith)
 line-untabbed (b ∷ a ∷ s) l f = rw (ne-eqb a tab f, split-first tab s .1) (go (eqb b tab))
   where
     go : (x : Bool)
-        → lineOfParts (cond x ([] ∷ (a ∷ firstPart tab s) ∷ split-first tab s .0) ((b ∷ a ∷ firstPart tab s) ∷ split-first tab s .0)) ≡ NoForm
+        → lineOfParts (cond x ([] ∷ (a ∷ firstPart tab s) ∷ split-first tab s .0) ((b ∷ a ∷ firstPart tab s) ∷ split-first tab s .0))
+        ≡ NoForm
     go true = refl
     go false = no-letter (b ∷ a ∷ firstPart tab s) (split-first tab s .0) (λ e. omega arith)
 
-pub line-tabbed : (s : List ℕ) → 2 ≤ length s → getD s 1 0 ≡ tab → lineOf s ≡ formFrom (getD s 0 0) (fieldsOf (split tab (drop 2 s)))
+pub line-tabbed : (s : List ℕ) → 2 ≤ length s → getD s 1 0 ≡ tab
+    → lineOf s ≡ formFrom (getD s 0 0) (fieldsOf (split tab (drop 2 s)))
 unfolding lineOf split formOf
 line-tabbed [] l e = absurd (omega arith)
 line-tabbed (b ∷ []) l e = absurd (omega arith)

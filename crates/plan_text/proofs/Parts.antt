@@ -46,7 +46,8 @@ module _ (separator : ℕ) where
     unfolding partLength
     part-found l e = rw (drop-cons s i 0 l) (simp (eq-eqb _ _ e))
 
-    pub part-more : i < length s → (getD s i 0 ≡ separator → ⊥) → partLength separator (drop i s) ≡ suc (partLength separator (drop (i + 1) s))
+    pub part-more : i < length s → (getD s i 0 ≡ separator → ⊥)
+        → partLength separator (drop i s) ≡ suc (partLength separator (drop (i + 1) s))
     unfolding partLength
     part-more l e = rw (add-one i, drop-cons s i 0 l) (simp (ne-eqb _ _ e))
 
@@ -58,7 +59,8 @@ module _ (separator : ℕ) where
   split-whole [] l = refl
   split-whole (b ∷ s) l = go (eqb b separator) l (split-whole s)
     where
-      go : (t : Bool) → suc (length s) ≤ cond t 0 (suc (partLength separator s)) → (length s ≤ partLength separator s → split separator s ≡ s ∷ [])
+      go : (t : Bool) → suc (length s) ≤ cond t 0 (suc (partLength separator s))
+          → (length s ≤ partLength separator s → split separator s ≡ s ∷ [])
           → cond t ([] ∷ split separator s) (prepend b (split separator s)) ≡ (b ∷ s) ∷ []
       go true l ih = absurd (not-suc-le-zero l)
       go false l ih = ap (prepend b) (ih (le-of-suc-le-suc l))
@@ -74,14 +76,17 @@ module _ (separator : ℕ) where
   split-more (b ∷ s) l = rw (add-one (partLength separator (b ∷ s))) (go (eqb b separator) l (split-more s))
     where
       go : (t : Bool) → cond t 0 (suc (partLength separator s)) < suc (length s)
-          → (partLength separator s < length s → split separator s ≡ firstPart separator s ∷ split separator (drop (partLength separator s + 1) s))
+          → (partLength separator s < length s
+          → split separator s ≡ firstPart separator s ∷ split separator (drop (partLength separator s + 1) s))
           → cond t ([] ∷ split separator s) (prepend b (split separator s))
-          ≡ take (cond t 0 (suc (partLength separator s))) (b ∷ s) ∷ split separator (drop (cond t 0 (suc (partLength separator s))) s)
+          ≡ take (cond t 0 (suc (partLength separator s))) (b ∷ s)
+          ∷ split separator (drop (cond t 0 (suc (partLength separator s))) s)
       go true l ih = refl
       go false l ih = ap (prepend b) (ih (le-of-suc-le-suc l)) ∙ rw (add-one (partLength separator s))
 
   -- there is a first part
   pub split-first : (s : List ℕ) → (parts : List (List ℕ)) × (split separator s ≡ firstPart separator s ∷ parts)
   split-first s =
-      by-test (ltb (partLength separator s) (length s)) (λ e. (split separator (drop (partLength separator s + 1) s), split-more s (ltb-true _ _ e)))
+      by-test (ltb (partLength separator s) (length s))
+      (λ e. (split separator (drop (partLength separator s + 1) s), split-more s (ltb-true _ _ e)))
       (λ e. ([], split-last s (ltb-false _ _ e)))

@@ -1,16 +1,17 @@
 -- There is always room for another entry: there are as many entries as tasks listed. Assumes nothing.
 use mathlib.Core.Path.{_≡_, refl, sym, ap, _∙_}
 use mathlib.Core.Bool.{false, _||_}
-use Prim.Native.Nat.{ℕ, suc, _<_}
+use Prim.Native.Nat.{ℕ, suc, _+_, _≤_, _<_}
 use native.Mathlib.Omega.{arith}
 use lib.Dec.{eqb}
 use Rattle.task_set.specs.Sets.{width, has, insert, size}
+use Rattle.task_set.proofs.Truth.{by-test}
 use Rattle.task_set.proofs.Bounded.{count-cong, count-none, count-short, count-more}
 use Rattle.task_set.proofs.Members.{has-none, has-insert}
 use Rattle.plan.specs.Rules.{mostTasks}
 use Rattle.plan_text.specs.declared.Line.{Line}
 use Rattle.plan_text.specs.declared.Line.the-variants.{Units, Times, Arrow, Choice}
-use Rattle.plan_text.specs.Reading.{Reading, nothing, lineFault, lineDone}
+use Rattle.plan_text.specs.Reading.{Reading, nothing, isKind, counted, lineFault, lineDone}
 use Rattle.plan_text.proofs.Faultless.{passed, choice-task}
 
 abbrev pub Counted : Reading → Type 0
@@ -35,8 +36,13 @@ counted-more r (Times t k b w) f e = e
 counted-more r (Arrow from to) f e = e
 counted-more r (Choice t k) f e = let g = new-task r t k f in omega (arith, one-more (r .seen .listed) t (g .0) (g .1))
 
-pub room : (r : Reading) {line : Line} → lineFault r line ≡ 0 → Counted r → (t k : ℕ) → line ≡ Choice t k → r .constraint .len < mostTasks
+pub room : (r : Reading) {line : Line} → lineFault r line ≡ 0 → Counted r
+    → (t k : ℕ) → line ≡ Choice t k → r .constraint .len < mostTasks
 unfolding size
 room r f e t k h =
     let g = new-task r t k (sym (ap (lineFault r) h) ∙ f) in
     omega (arith, e, count-short width (has (r .seen .listed)) t (g .0) (g .1))
+
+-- a line adds at most one
+pub counted-le : (line : Line) (kind n : ℕ) → counted line kind n ≤ n + 1
+counted-le line kind n = by-test (isKind line kind) (λ e. rw e (omega arith)) (λ e. rw e (omega arith))

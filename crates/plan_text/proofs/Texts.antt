@@ -39,7 +39,8 @@ abbrev answer : LineForm → ℕ → Reading → List ℕ → Answer
 answer line k r rest = answerBy line k r (readLines (split newline rest) (k + 1))
 
 -- the line before a newline
-line-ended : (part rest : List ℕ) (k : ℕ) (r : Reading) → readLines (part ∷ split newline rest) k r ≡ answer (lineOf part) k r rest
+line-ended : (part rest : List ℕ) (k : ℕ) (r : Reading)
+    → readLines (part ∷ split newline rest) k r ≡ answer (lineOf part) k r rest
 unfolding readLines
 line-ended part rest k r = rw (split-first newline rest .1)
 
@@ -56,7 +57,8 @@ module _ (s : List ℕ) (at e k : ℕ) (r : Reading) (ends : e ≡ at + partLeng
       let n = partLength newline (drop at s) in
       let m : n ≡ e - at = omega arith in
       let p : drop (n + 1) (drop at s) ≡ drop (e + 1) s = rw ends (drop-past s at n) in
-      let q : lineOf (firstPart newline (drop at s)) ≡ lineAt s at e = rw (lt-ltb e (length s) l) (ap (λ (x : ℕ). lineOf (take x (drop at s))) m) in
+      let q : lineOf (firstPart newline (drop at s)) ≡ lineAt s at e =
+      rw (lt-ltb e (length s) l) (ap (λ (x : ℕ). lineOf (take x (drop at s))) m) in
       ap (λ (x : List (List ℕ)). readLines x k r) (split-more newline (drop at s) (omega (arith, length-drop at s)))
       ∙ line-ended (firstPart newline (drop at s)) (drop (n + 1) (drop at s)) k r
       ∙ ap₂ (λ (x : LineForm) (y : List ℕ). answer x k r y) q p
@@ -70,7 +72,8 @@ module _ (s : List ℕ) (at e k : ℕ) (r : Reading) (ends : e ≡ at + partLeng
       ∙ line-unended (firstPart newline (drop at s)) k r g ∙ rw (le-ltb e (length s) l)
 
   -- the answer by the line that was read
-  pub line-read : {form : LineForm} → lineAt s at e ≡ form → readLines (split newline (drop at s)) k r ≡ answer form k r (drop (e + 1) s)
+  pub line-read : {form : LineForm} → lineAt s at e ≡ form
+      → readLines (split newline (drop at s)) k r ≡ answer form k r (drop (e + 1) s)
   line-read f =
       by-test (ltb e (length s)) (λ t. found (ltb-true _ _ t)) (λ t. lost (ltb-false _ _ t))
       ∙ ap (λ (x : LineForm). answer x k r (drop (e + 1) s)) f

@@ -106,7 +106,8 @@ module _ (line : Line) where
   abbrev pub stored : ℕ → List ℕ → ℕ → ℕ → List ℕ
   stored kind l i v = cond (isKind kind) (set l i v) l
 
--- "The plan's tasks number one more than the greatest task here"; "`to` waits for `from`"; "the constraint, in the order of its lines"
+-- "The plan's tasks number one more than the greatest task here"; "`to` waits for `from`";
+-- "the constraint, in the order of its lines"
 unfoldable pub lineDone : Reading → Line → Reading
 lineDone r line =
     let v = number line in

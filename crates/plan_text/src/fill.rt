@@ -1,11 +1,11 @@
 // What a line without a fault adds, one function for each thing that is kept.
 ghost use mathlib.Core.Path.{_≡_};
 ghost use mathlib.Core.Bool.{cond, false};
-ghost use Prim.Native.Nat.{ℕ, _+_, _<_, max};
-ghost use lib.ListN.{set};
+ghost use Prim.Native.Nat.{ℕ, _+_, _≤_, _<_, max};
 ghost use Rattle.task_set.specs.Sets.{insert};
-ghost use Rattle.plan.specs.Rules.{mostTasks, mostTypes, pairIndex, predecessorsOf};
+ghost use Rattle.plan.specs.Rules.{mostTasks, pairIndex, predecessorsOf};
 ghost use Rattle.plan_text.specs.Reading.{counted, isKind, kindOf, named, number, outOfRange, stored};
+ghost use Rattle.plan_text.specs.Text.{mostBytes};
 use crate::Line;
 use crate::Seen;
 use crate::fault::kind_of;
@@ -13,14 +13,51 @@ use plan::MOST_PAIRS;
 use plan::MOST_TASKS;
 use plan::MOST_TYPES;
 
-pub fn types(types: usize, line: Line) -> usize
-    requires { ⌜ ((k n : ℕ) → line ≡ Line.Units k n → types < mostTypes) ⌝ }
-    ensures { λ r. ⌜ r ≡ counted line 0 types ⌝ }
+// The first number of a line.
+fn first(line: Line) -> u32
+    ensures { λ r. ⌜ r ≡ number line 0 ⌝ }
 {
-    if let Line::Units(_, _) = line {
-        return types + 1;
+    match line {
+        Line::Units(k, _) => k,
+        Line::Times(t, _, _, _) => t,
+        Line::Arrow(from, _) => from,
+        Line::Choice(t, _) => t,
     }
-    types
+}
+
+// One more after a line of this kind.
+pub fn counted(n: usize, kind: u32, line: Line) -> usize
+    requires { ⌜ n ≤ mostBytes ⌝ }
+    ensures { λ r. ⌜ r ≡ counted line kind n ⌝ }
+{
+    if kind_of(line) == kind {
+        return n + 1;
+    }
+    n
+}
+
+// With the task that a line of this kind names first.
+fn named(tasks: u64, kind: u32, line: Line) -> u64
+    ensures { λ r. ⌜ r ≡ named line kind tasks ⌝ }
+{
+    if kind_of(line) == kind {
+        return task_set::inserted(tasks, first(line) as usize);
+    }
+    tasks
+}
+
+pub fn seen(seen: Seen, line: Line) -> Seen
+    ensures { λ r. ⌜ r
+        ≡ record { kind = kindOf line; timed = named line 1 (seen .timed); listed = named line 3 (seen .listed) } ⌝ }
+{
+    let kind = kind_of(line);
+    let timed = named(seen.timed, 1, line);
+    let listed = named(seen.listed, 3, line);
+    Seen {
+        kind,
+        timed,
+        listed,
+    }
 }
 
 pub fn units(units: &mut [u32; MOST_TYPES], line: Line)
@@ -51,32 +88,16 @@ pub fn tasks(tasks: usize, line: Line) -> usize
     tasks
 }
 
-// Times lie task by task, as plan::time_of has it.
-fn put_time(times: &mut [u32; MOST_PAIRS], t: u32, k: u32, x: u32)
-    requires { ⌜ (t < mostTasks) × (k < mostTypes) ⌝ }
-    ensures { λ _. ⌜ now (times .exit) ≡ set (now (times .entry)) (pairIndex t k) x ⌝ }
+// The best times are number 2 of a T line, the worst number 3. They lie task by task, as plan::time_of has it.
+pub fn times(times: &mut [u32; MOST_PAIRS], i: usize, line: Line)
+    requires { ⌜ (i < 4) × (outOfRange line ≡ false) ⌝ }
+    ensures { λ _. ⌜ now (times .exit)
+        ≡ stored line 1 (now (times .entry)) (pairIndex (number line 0) (number line 1)) (number line i) ⌝ }
 {
-    let i = (t as usize) * MOST_TYPES + (k as usize);
-    times[i] = x;
-}
-
-pub fn best(bcet: &mut [u32; MOST_PAIRS], line: Line)
-    requires { ⌜ outOfRange line ≡ false ⌝ }
-    ensures { λ _. ⌜ now (bcet .exit)
-        ≡ stored line 1 (now (bcet .entry)) (pairIndex (number line 0) (number line 1)) (number line 2) ⌝ }
-{
-    if let Line::Times(t, k, b, _) = line {
-        put_time(bcet, t, k, b);
-    }
-}
-
-pub fn worst(wcet: &mut [u32; MOST_PAIRS], line: Line)
-    requires { ⌜ outOfRange line ≡ false ⌝ }
-    ensures { λ _. ⌜ now (wcet .exit)
-        ≡ stored line 1 (now (wcet .entry)) (pairIndex (number line 0) (number line 1)) (number line 3) ⌝ }
-{
-    if let Line::Times(t, k, _, w) = line {
-        put_time(wcet, t, k, w);
+    if let Line::Times(t, k, b, w) = line {
+        let v = [t, k, b, w];
+        let pair = (t as usize) * MOST_TYPES + (k as usize);
+        times[pair] = v[i];
     }
 }
 
@@ -93,62 +114,13 @@ pub fn predecessors(predecessors: &mut [u64; MOST_TASKS], line: Line)
     }
 }
 
-// There is room for another entry.
-pub fn order(len: usize, order: &mut [usize; MOST_TASKS], line: Line)
-    requires { ⌜ ((t k : ℕ) → line ≡ Line.Choice t k → len < mostTasks) ⌝ }
-    ensures { λ _. ⌜ now (order .exit) ≡ stored line 3 (now (order .entry)) len (number line 0) ⌝ }
+// The tasks of the constraint are number 0 of a C line, the types number 1. There is room for another entry.
+pub fn entries(len: usize, entries: &mut [usize; MOST_TASKS], i: usize, line: Line)
+    requires { ⌜ (i < 2) × ((t k : ℕ) → line ≡ Line.Choice t k → len < mostTasks) ⌝ }
+    ensures { λ _. ⌜ now (entries .exit) ≡ stored line 3 (now (entries .entry)) len (number line i) ⌝ }
 {
-    if let Line::Choice(t, _) = line {
-        order[len] = t as usize;
-    }
-}
-
-pub fn chosen(len: usize, chosen: &mut [usize; MOST_TASKS], line: Line)
-    requires { ⌜ ((t k : ℕ) → line ≡ Line.Choice t k → len < mostTasks) ⌝ }
-    ensures { λ _. ⌜ now (chosen .exit) ≡ stored line 3 (now (chosen .entry)) len (number line 1) ⌝ }
-{
-    if let Line::Choice(_, k) = line {
-        chosen[len] = k as usize;
-    }
-}
-
-pub fn len(len: usize, line: Line) -> usize
-    requires { ⌜ ((t k : ℕ) → line ≡ Line.Choice t k → len < mostTasks) ⌝ }
-    ensures { λ r. ⌜ r ≡ counted line 3 len ⌝ }
-{
-    if let Line::Choice(_, _) = line {
-        return len + 1;
-    }
-    len
-}
-
-fn timed(timed: u64, line: Line) -> u64
-    ensures { λ r. ⌜ r ≡ named line 1 timed ⌝ }
-{
-    if let Line::Times(t, _, _, _) = line {
-        return task_set::inserted(timed, t as usize);
-    }
-    timed
-}
-
-fn listed(listed: u64, line: Line) -> u64
-    ensures { λ r. ⌜ r ≡ named line 3 listed ⌝ }
-{
-    if let Line::Choice(t, _) = line {
-        return task_set::inserted(listed, t as usize);
-    }
-    listed
-}
-
-pub fn seen(seen: Seen, line: Line) -> Seen
-    ensures { λ r. ⌜ r ≡ record { kind = kindOf line; timed = named line 1 (seen .timed); listed = named line 3 (seen .listed) } ⌝ }
-{
-    let kind = kind_of(line);
-    let timed = timed(seen.timed, line);
-    let listed = listed(seen.listed, line);
-    Seen {
-        kind,
-        timed,
-        listed,
+    if let Line::Choice(t, k) = line {
+        let v = [t as usize, k as usize];
+        entries[len] = v[i];
     }
 }

@@ -111,15 +111,15 @@ pub fn read(text: &[u8]) -> Answer
         if fault != 0 {
             return refuse(fault, place);
         }
-        p.types = fill::types(p.types, line);
+        p.types = fill::counted(p.types, 0, line);
         fill::units(&mut p.units, line);
         p.tasks = fill::tasks(p.tasks, line);
-        fill::best(&mut p.bcet, line);
-        fill::worst(&mut p.wcet, line);
+        fill::times(&mut p.bcet, 2, line);
+        fill::times(&mut p.wcet, 3, line);
         fill::predecessors(&mut p.predecessors, line);
-        fill::order(c.len, &mut c.order, line);
-        fill::chosen(c.len, &mut c.chosen, line);
-        c.len = fill::len(c.len, line);
+        fill::entries(c.len, &mut c.order, 0, line);
+        fill::entries(c.len, &mut c.chosen, 1, line);
+        c.len = fill::counted(c.len, 3, line);
         seen = fill::seen(seen, line);
         at = e + 1;
         place += 1;

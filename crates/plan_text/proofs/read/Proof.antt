@@ -1,5 +1,5 @@
 -- `plan_text::read` meets its contract: the answer is that of the lines left, after what was read so far. Assumes nothing.
-use mathlib.Core.Path.{_≡_, sym, _∙_}
+use mathlib.Core.Path.{_≡_, sym, ap, subst, _∙_}
 use mathlib.Core.Bool.{false}
 use mathlib.Core.List.{List}
 use Prim.Native.Nat.{ℕ, _+_, _-_, _≤_, _<_}
@@ -15,8 +15,8 @@ use Rattle.plan_text.specs.declared.Line.the-variants.{Choice}
 use Rattle.plan_text.specs.declared.LineForm.the-variants.{Of}
 use Rattle.plan_text.specs.Steps.{lineAt, partLength}
 use Rattle.plan_text.proofs.Texts.{text-long, text-short, text-ended, line-read, line-taken, line-refused, line-within}
-use Rattle.plan_text.proofs.Faultless.{passed, next-type}
-use Rattle.plan_text.proofs.Room.{Counted, counted-none, counted-more, room}
+use Rattle.plan_text.proofs.Faultless.{passed}
+use Rattle.plan_text.proofs.Room.{Counted, counted-none, counted-more, counted-le, room}
 use Rattle.plan_text.proofs.read.Statement.{statement}
 use Rattle.plan_text.proofs.read.Tie as tie
 
@@ -27,6 +27,8 @@ Inv-loop text p₀ c₀ seen₀ at₀ place₀ p c seen at place =
     × (place ≤ at + 1)
     × (readText text ≡ readLines (split newline (drop at text)) place r)
     × Counted r
+    × (p .types ≤ place)
+    × (c .len ≤ place)
 
 abbrev μ-loop : tie.MeasureT-loop
 μ-loop text p₀ c₀ seen₀ at₀ place₀ p c seen at place = length text - at
@@ -67,19 +69,26 @@ faultless e = sym (e .before .line-fault .ensures) ∙ e .if2 .left
 range : (e : tie.Else2 Inv-loop μ-loop) → outOfRange (line (e .before)) ≡ false
 range e = passed (read (turn (told (e .before)))) _ (faultless e) .range
 
-roomy : (e : tie.Else2 Inv-loop μ-loop) (t k : ℕ) → line (e .before) ≡ Choice t k → turn (told (e .before)) .loop .c .len < mostTasks
+roomy : (e : tie.Else2 Inv-loop μ-loop) (t k : ℕ) → line (e .before) ≡ Choice t k
+    → turn (told (e .before)) .loop .c .len < mostTasks
 roomy e = let l = turn (told (e .before)) in room (read l) (faultless e) (l .loop .inv .3)
 
--- where the next line begins
-bounds : (e : tie.Else2 Inv-loop μ-loop) → let a = told (e .before) in let end = a .before .line-end .result in let l = turn a .loop in
-    (l .at ≤ end) × (end < length (text (turn a))) × (length (text (turn a)) ≤ mostBytes) × (l .place ≤ l .at + 1)
+-- how many lines there may be, and where the next begins
+few : (e : tie.Else2 Inv-loop μ-loop) → let a = told (e .before) in turn a .loop .place ≤ mostBytes
+few e =
+    let l = turn (told (e .before)) in
+    omega (arith, l .before .before .before .if1 .left, l .loop .inv .1, in-turn (told (e .before)))
+
+bounds : (e : tie.Else2 Inv-loop μ-loop) → let a = told (e .before) in
+    (turn a .loop .at ≤ a .before .line-end .result) × (a .before .line-end .result < length (text (turn a)))
+    × (length (text (turn a)) ≤ mostBytes)
 bounds e =
     let a = told (e .before) in
-    let l = turn a in (
+    let l = turn a in
+    let f = e .before in (
       omega (arith, ends a),
-      line-within (text l) _ _ 0 (read l) (ends a) (in-turn a) (line (e .before)) (form (e .before)),
+      line-within (text l) _ _ 0 (read l) (ends a) (in-turn a) (line f) (form f),
       l .before .before .before .if1 .left,
-      l .loop .inv .1,
     )
 
 -- past what a line adds to the plan, and to the constraint
@@ -92,7 +101,7 @@ past c = past-plan (c .before .before .before .before .before .before)
 loop-holds : tie.Need-loop-holds Inv-loop μ-loop
 loop-holds c =
     rw (c .before .no-plan .ensures, c .no-constraint .ensures)
-    (search needs, search needs, text-short _ (c .before .before .if1 .left), counted-none)
+    (search needs, search needs, text-short _ (c .before .before .if1 .left), counted-none, search needs, search needs)
 
 returns-2 : tie.Need-returns-2 Inv-loop μ-loop
 returns-2 c =
@@ -109,12 +118,14 @@ returns-3 c =
     let l = turn a in
     c .refuse3 .ensures
     ∙ sym (l .loop .inv .2
-    ∙ line-refused (text l) _ _ _ (read l) (ends a) (in-turn a) (line f) (form f) (f .line-fault .ensures) (c .before .if2 .taken))
+    ∙ line-refused (text l) _ _ _ (read l) (ends a) (in-turn a) (line f) (form f) (f .line-fault .ensures)
+    (c .before .if2 .taken))
 
 loop-again : tie.Need-loop-again Inv-loop μ-loop
 unfolding lineDone
 loop-again c =
-    let h = c .before .before in
+    let n = c .before in
+    let h = n .before in
     let o = h .before .before in
     let q = o .before .before in
     let w = q .before .before in
@@ -122,26 +133,34 @@ loop-again c =
     let t = b .before .before in
     let u = t .before in
     let y = u .before .before in
-    let e = past c in
-    let a = told (e .before) in
+    let f = past c .before in
+    let a = told f in
     let l = turn a in
-    rw (
-      y .types .ensures,
-      u .units .ensures,
-      t .tasks .ensures,
-      b .best .ensures,
-      w .worst .ensures,
-      q .predecessors .ensures,
-      o .order .ensures,
-      h .chosen .ensures,
-      c .before .len .ensures,
-      c .seen .ensures,
-    ) (
-      omega (arith, bounds e),
-      omega (arith, bounds e),
-      l .loop .inv .2 ∙ line-taken (text l) _ _ _ (read l) (ends a) (in-turn a) (line (e .before)) (form (e .before)) (faultless e),
-      counted-more (read l) _ (faultless e) (l .loop .inv .3),
+    let d : _≡_ {A = Reading} _ (lineDone (read l) (line f)) =
+    λ i.
+    record {
+      plan = record {
+        types = y .counted .ensures i;
+        units = u .units .ensures i;
+        tasks = t .tasks .ensures i;
+        bcet = b .times .ensures i;
+        wcet = w .times2 .ensures i;
+        predecessors = q .predecessors .ensures i;
+      };
+      constraint = record { len = n .counted2 .ensures i; order = o .entries .ensures i; chosen = h .entries2 .ensures i };
+      seen = c .seen .ensures i;
+    } in (
+      omega (arith, bounds (past c)),
+      omega (arith, bounds (past c), l .loop .inv .1),
+      l .loop .inv .2 ∙ line-taken (text l) _ _ _ (read l) (ends a) (in-turn a) (line f) (form f) (faultless (past c))
+          ∙ ap (readLines _ _) (sym d),
+      subst Counted (sym d) (counted-more (read l) _ (faultless (past c)) (l .loop .inv .3)),
+      omega (arith, y .counted .ensures, l .loop .inv .4, counted-le (line f) 0 (l .loop .p .types)),
+      omega (arith, n .counted2 .ensures, l .loop .inv .5, counted-le (line f) 3 (l .loop .c .len)),
     )
+
+len-fits : tie.Need-counted-requires-2 Inv-loop μ-loop
+len-fits c κs = let e = past-plan (c .before .before .before .before) in omega (arith, few e, turn (told (e .before)) .loop .inv .5)
 
 returns-4 : tie.Need-returns-4 Inv-loop μ-loop
 returns-4 c =
@@ -154,11 +173,11 @@ read-spec =
     (λ c. c .refuse .ensures ∙ sym (text-long _ (c .before .if1 .taken))) (λ c κs. search needs) (λ c κs. search needs)
     loop-holds (λ c κs. search needs) (λ c κs. omega (arith, c .line-end .ensures)) (λ c. search needs)
     (λ c. search needs) (λ c κs. search needs) returns-2 (λ c κs. search needs) (λ c κs. search needs) returns-3
-    (λ c κs. next-type _ (passed (read (turn (told (c .before)))) _ (faultless c))) (λ c κs. range (c .before .before))
-    (λ c κs. search needs) (λ c κs. range (c .before .before .before .before .before))
-    (λ c κs. range (c .before .before .before .before .before .before .before))
+    (λ c κs. omega (arith, few c, turn (told (c .before)) .loop .inv .4)) (λ c κs. range (c .before .before))
+    (λ c κs. search needs) (λ c κs. (search needs, range (c .before .before .before .before .before)))
+    (λ c κs. (search needs, range (c .before .before .before .before .before .before .before)))
     (λ c κs. range (c .before .before .before .before .before .before .before .before .before))
-    (λ c κs. roomy (past-plan (c .before))) (λ c κs. roomy (past-plan (c .before .before .before)))
-    (λ c κs. roomy (past-plan (c .before .before .before .before))) (λ c κs. search needs)
-    (λ c. omega (arith, bounds (past c))) (λ c. omega (arith, bounds (past c))) (λ c. omega (arith, bounds (past c)))
+    (λ c κs. (search needs, roomy (past-plan (c .before))))
+    (λ c κs. (search needs, roomy (past-plan (c .before .before .before)))) len-fits (λ c κs. search needs)
+    (λ c. omega (arith, bounds (past c))) (λ c. omega (arith, few (past c))) (λ c. omega (arith, bounds (past c)))
     loop-again returns-4)

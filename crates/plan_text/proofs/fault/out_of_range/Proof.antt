@@ -6,7 +6,13 @@ use Rattle.plan_text.proofs.fault.out_of_range.Tie as tie
 returns-2 : tie.Need-returns-2
 returns-2 c =
     let k = c .before .before .before in
-    rw (k .before .before .line2 .given .1, k .is-task .ensures, c .before .before .is-type2 .ensures, c .before .is-time .ensures, c .is-time2 .ensures)
+    rw (
+      k .before .before .line2 .given .1,
+      k .is-task .ensures,
+      c .before .before .is-type2 .ensures,
+      c .before .is-time .ensures,
+      c .is-time2 .ensures,
+    )
 
 pub out-of-range-spec : {M : Type 1} → statement M
 out-of-range-spec =

@@ -6,4 +6,4 @@ use Rattle.plan_text.proofs.fill.seen.Tie as tie
 pub seen-spec : {M : Type 1} → statement M
 seen-spec =
     tie.close (tie.spec (λ c κs. search needs) (λ c κs. search needs) (λ c κs. search needs)
-    (λ c. rw (c .before .before .kind-of .ensures, c .before .timed .ensures, c .listed .ensures)))
+    (λ c. rw (c .before .before .kind-of .ensures, c .before .named .ensures, c .named2 .ensures)))

@@ -24,7 +24,8 @@ abbrev text : tie.At-loop Inv-loop μ-loop → List ℕ
 text l = l .before .before .args .s .now
 
 -- at the end of the first part: its field is that of the digits passed
-ended : (l : tie.At-loop Inv-loop μ-loop) → partLength tab (drop (l .loop .n) (text l)) ≡ 0 → fieldOf (take (l .loop .n) (text l)) ≡ fieldOf (firstPart tab (text l))
+ended : (l : tie.At-loop Inv-loop μ-loop) → partLength tab (drop (l .loop .n) (text l)) ≡ 0
+    → fieldOf (take (l .loop .n) (text l)) ≡ fieldOf (firstPart tab (text l))
 ended l e = let z : l .loop .n ≡ partLength tab (text l) = omega arith in ap (λ (k : ℕ). fieldOf (take k (text l))) z
 
 -- no tab: the first part goes on
@@ -43,10 +44,12 @@ digit-here c = sym (c .before .is-digit .ensures) ∙ not-false _ (c .if3 .left)
 returns : tie.Need-returns Inv-loop μ-loop
 returns c =
     let l = c .before .before .before .before in
-    c .field-of .ensures ∙ ended l (part-found tab (text l) (l .loop .n) (c .before .before .before .loop-test .taken) (c .before .if1 .taken))
+    c .field-of .ensures
+    ∙ ended l (part-found tab (text l) (l .loop .n) (c .before .before .before .loop-test .taken) (c .before .if1 .taken))
 
 returns-3 : tie.Need-returns-3 Inv-loop μ-loop
-returns-3 c = sym (field-odd _ _ (inside (c .before .before .before)) (sym (c .before .is-digit .ensures) ∙ not-true _ (c .if3 .taken)))
+returns-3 c =
+    sym (field-odd _ _ (inside (c .before .before .before)) (sym (c .before .is-digit .ensures) ∙ not-true _ (c .if3 .taken)))
 
 add-value : tie.Need-add-value Inv-loop μ-loop
 add-value c =
@@ -62,7 +65,9 @@ loop-again c =
     )
 
 returns-4 : tie.Need-returns-4 Inv-loop μ-loop
-returns-4 c = let l = c .before .before in c .field-of2 .ensures ∙ ended l (part-ended tab (text l) (l .loop .n) (c .before .loop-test .left))
+returns-4 c =
+    let l = c .before .before in
+    c .field-of2 .ensures ∙ ended l (part-ended tab (text l) (l .loop .n) (c .before .loop-test .left))
 
 pub read-field-spec : {M : Type 1} → statement M
 read-field-spec =

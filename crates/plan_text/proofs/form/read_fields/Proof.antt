@@ -14,7 +14,8 @@ use Rattle.plan_text.proofs.form.read_fields.Statement.{statement}
 use Rattle.plan_text.proofs.form.read_fields.Tie as tie
 
 abbrev Inv-loop : tie.InvT-loop
-Inv-loop s values₀ count₀ at₀ values count at = (at ≤ length s) × (fieldsFrom (split tab (drop at s)) count values ≡ fieldsOf (split tab s))
+Inv-loop s values₀ count₀ at₀ values count at =
+    (at ≤ length s) × (fieldsFrom (split tab (drop at s)) count values ≡ fieldsOf (split tab s))
 
 abbrev μ-loop : tie.MeasureT-loop
 μ-loop s values₀ count₀ at₀ values count at = mostFields - count
@@ -27,7 +28,8 @@ abbrev left : tie.At-loop Inv-loop μ-loop → List ℕ
 left l = drop (l .loop .at) (text l)
 
 -- the field at its front
-read : (c : tie.After-read-field Inv-loop μ-loop) → fieldOf (firstPart tab (left (c .before .before .before))) ≡ c .read-field .result
+read : (c : tie.After-read-field Inv-loop μ-loop)
+    → fieldOf (firstPart tab (left (c .before .before .before))) ≡ c .read-field .result
 read c =
     let l = c .before .before .before in
     sym (c .read-field .ensures ∙ ap (λ (x : List ℕ). fieldOf (firstPart tab x)) (from-on (text l) (l .loop .at)))
@@ -39,7 +41,8 @@ digits k = k .before .value .given .0 .1 .0
 abbrev turn : tie.After-known-told Inv-loop μ-loop → tie.At-loop Inv-loop μ-loop
 turn k = k .before .before .before .before .before .before
 
-found : (k : tie.After-known-told Inv-loop μ-loop) → fieldOf (firstPart tab (left (turn k))) ≡ Number (k .before .value .given .0 .0) (digits k)
+found : (k : tie.After-known-told Inv-loop μ-loop)
+    → fieldOf (firstPart tab (left (turn k))) ≡ Number (k .before .value .given .0 .0) (digits k)
 found k = read (k .before .before .before) ∙ k .before .value .given .1
 
 -- a tab ends it: the rest goes on
@@ -54,14 +57,16 @@ fits c = let l = turn (c .before) in omega (arith, more c, length-drop (l .loop 
 returns : tie.Need-returns Inv-loop μ-loop
 returns c =
     let l = c .before .before .before .before .before .before in
-    c .no-fields .ensures ∙ sym (fields-none (left l) _ _ (read (c .before .before .before) ∙ c .before .enum-told .given .1)) ∙ l .loop .inv .1
+    c .no-fields .ensures
+    ∙ sym (fields-none (left l) _ _ (read (c .before .before .before) ∙ c .before .enum-told .given .1)) ∙ l .loop .inv .1
 
 returns-2 : tie.Need-returns-2 Inv-loop μ-loop
 returns-2 c =
     let k = c .before in
     let l = turn k in
     let few = k .before .before .before .before .before .loop-test .taken in
-    sym (fields-last (left l) _ _ few _ _ (found k) (c .if1 .taken ∙ ap length (from-on (text l) (l .loop .at)))) ∙ l .loop .inv .1
+    sym (fields-last (left l) _ _ few _ _ (found k) (c .if1 .taken ∙ ap length (from-on (text l) (l .loop .at))))
+    ∙ l .loop .inv .1
 
 loop-again : tie.Need-loop-again Inv-loop μ-loop
 loop-again c =
@@ -69,11 +74,14 @@ loop-again c =
     let l = turn k in
     let few = k .before .before .before .before .before .loop-test .taken in (
       omega (arith, fits c),
-      rw (← drop-past (text l) (l .loop .at) (digits k)) (sym (fields-more (left l) _ _ few _ _ (found k) (more c)) ∙ l .loop .inv .1),
+      rw (← drop-past (text l) (l .loop .at) (digits k))
+          (sym (fields-more (left l) _ _ few _ _ (found k) (more c)) ∙ l .loop .inv .1),
     )
 
 returns-3 : tie.Need-returns-3 Inv-loop μ-loop
-returns-3 c = let l = c .before .before in c .no-fields2 .ensures ∙ sym (fields-full (left l) _ _ (c .before .loop-test .left)) ∙ l .loop .inv .1
+returns-3 c =
+    let l = c .before .before in
+    c .no-fields2 .ensures ∙ sym (fields-full (left l) _ _ (c .before .loop-test .left)) ∙ l .loop .inv .1
 
 pub read-fields-spec : {M : Type 1} → statement M
 read-fields-spec =
