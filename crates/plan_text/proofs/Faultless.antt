@@ -1,11 +1,10 @@
 -- What a line without a fault is. Assumes nothing.
 use mathlib.Core.Path.{_≡_, refl, sym, ap, _∙_}
-use mathlib.Core.Bool.{Bool, true, false, cond, _&&_}
+use mathlib.Core.Bool.{Bool, true, false, cond}
 use Prim.Native.Nat.{ℕ, _<_}
 use native.Mathlib.Omega.{arith}
 use lib.Dec.{ltb}
-use borrow.Author.Tests.{leb-false, ltb-true, eqb-true, not-false}
-use Rattle.task_set.specs.Sets.{has}
+use borrow.Author.Tests.{ltb-true, not-false}
 use Rattle.task_set.proofs.Truth.{and-left, and-right}
 use Rattle.plan.specs.Rules.{mostTypes, mostTasks}
 use Rattle.plan_text.specs.declared.Line.{Line}

@@ -123,10 +123,6 @@ module _ (letter : ℕ) where
       by-test (every isField parts) (λ e. rw e (all-forms parts e))
       (λ e. rw (e, fields-off parts 0 (noFields .values) e) (sym (no-form _)))
 
--- a line with no one letter before its first tab
-no-letter : (letter : List ℕ) (fields : List (List ℕ)) → (length letter ≡ 1 → ⊥) → lineOfParts (letter ∷ fields) ≡ NoForm
-no-letter letter fields f = rw (ne-eqb (length letter) 1 f)
-
 pub line-short : (s : List ℕ) → length s < 2 → lineOf s ≡ NoForm
 unfolding lineOf split every isField
 line-short [] l = refl
@@ -141,13 +137,11 @@ pub line-untabbed : (s : List ℕ) → 2 ≤ length s → (getD s 1 0 ≡ tab �
 unfolding lineOf split
 line-untabbed [] l f = absurd (omega arith)
 line-untabbed (b ∷ []) l f = absurd (omega arith)
-line-untabbed (b ∷ a ∷ s) l f = rw (ne-eqb a tab f, split-first tab s .1) (go (eqb b tab))
+line-untabbed (b ∷ a ∷ s) l f = rw (ne-eqb a tab f, split-first tab s .1) (go (eqb b tab) (a ∷ firstPart tab s) _ (omega arith))
   where
-    go : (x : Bool)
-        → lineOfParts (cond x ([] ∷ (a ∷ firstPart tab s) ∷ split-first tab s .0) ((b ∷ a ∷ firstPart tab s) ∷ split-first tab s .0))
-        ≡ NoForm
-    go true = refl
-    go false = no-letter (b ∷ a ∷ firstPart tab s) (split-first tab s .0) (λ e. omega arith)
+    go : (x : Bool) (p : List ℕ) (parts : List (List ℕ)) → 0 < length p → lineOfParts (cond x ([] ∷ p ∷ parts) ((b ∷ p) ∷ parts)) ≡ NoForm
+    go true p parts m = refl
+    go false p parts m = rw (ne-eqb (length (b ∷ p)) 1 (λ e. omega arith))
 
 pub line-tabbed : (s : List ℕ) → 2 ≤ length s → getD s 1 0 ≡ tab
     → lineOf s ≡ formFrom (getD s 0 0) (fieldsOf (split tab (drop 2 s)))

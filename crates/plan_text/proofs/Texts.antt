@@ -1,16 +1,15 @@
 -- A text read line by line. Assumes nothing.
 use mathlib.Core.Path.{_≡_, refl, ap, ap₂, _∙_}
-use mathlib.Core.Bool.{cond}
 use mathlib.Core.List.{List, [], _∷_}
 use Prim.Native.Nat.{ℕ, _+_, _-_, _≤_, _<_}
 use native.Mathlib.Omega.{arith}
-use lib.Dec.{eqb, ltb}
+use lib.Dec.{ltb}
 use lib.ListN.{length, take, drop, length-drop}
 use borrow.Author.Tests.{eq-eqb, ne-eqb, lt-ltb, le-ltb, ltb-true, ltb-false}
 use Rattle.task_set.proofs.Truth.{by-test}
 use Rattle.plan_text.specs.declared.Line.{Line}
 use Rattle.plan_text.specs.declared.LineForm.{LineForm}
-use Rattle.plan_text.specs.declared.LineForm.the-variants.{Of, NoForm}
+use Rattle.plan_text.specs.declared.LineForm.the-variants.{Of}
 use Rattle.plan_text.specs.declared.Answer.{Answer}
 use Rattle.plan_text.specs.Form.{newline, split, lineOf}
 use Rattle.plan_text.specs.Reading.{Reading, nothing, lineFault, lineDone}

@@ -74,10 +74,10 @@ roomy : (e : tie.Else2 Inv-loop μ-loop) (t k : ℕ) → line (e .before) ≡ Ch
 roomy e = let l = turn (told (e .before)) in room (read l) (faultless e) (l .loop .inv .3)
 
 -- how many lines there may be, and where the next begins
-few : (e : tie.Else2 Inv-loop μ-loop) → let a = told (e .before) in turn a .loop .place ≤ mostBytes
+few : (e : tie.Else2 Inv-loop μ-loop) → turn (told (e .before)) .loop .place ≤ mostBytes
 few e =
-    let l = turn (told (e .before)) in
-    omega (arith, l .before .before .before .if1 .left, l .loop .inv .1, in-turn (told (e .before)))
+    let a = told (e .before) in
+    omega (arith, turn a .before .before .before .if1 .left, turn a .loop .inv .1, in-turn a)
 
 bounds : (e : tie.Else2 Inv-loop μ-loop) → let a = told (e .before) in
     (turn a .loop .at ≤ a .before .line-end .result) × (a .before .line-end .result < length (text (turn a)))
@@ -160,7 +160,9 @@ loop-again c =
     )
 
 len-fits : tie.Need-counted-requires-2 Inv-loop μ-loop
-len-fits c κs = let e = past-plan (c .before .before .before .before) in omega (arith, few e, turn (told (e .before)) .loop .inv .5)
+len-fits c κs =
+    let e = past-plan (c .before .before .before .before) in
+    omega (arith, few e, turn (told (e .before)) .loop .inv .5)
 
 returns-4 : tie.Need-returns-4 Inv-loop μ-loop
 returns-4 c =

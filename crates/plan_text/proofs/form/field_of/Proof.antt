@@ -1,6 +1,5 @@
 -- `plan_text::form::field_of` meets its contract. Assumes nothing.
 use mathlib.Core.Path.{sym, _∙_}
-use lib.Dec.{}
 use borrow.Author.Needs.{needs}
 use Rattle.plan_text.proofs.Fields.{field-empty, field-ended}
 use Rattle.plan_text.proofs.form.field_of.Statement.{statement}
