@@ -1,7 +1,7 @@
 // The commands, each with its answer, and what is kept between them.
+use crate::fields;
 use crate::output;
 use crate::put;
-use feed::fields;
 use live::State;
 use plan::Constraint;
 use plan::MOST_TASKS;

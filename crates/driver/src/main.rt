@@ -21,13 +21,13 @@
 // Any other line answers bad and changes nothing; so does a line of 1,024 bytes or more, as one line. A first line that is
 // no count answers bad, and no text is read. Input is read in pieces of 65,536 bytes: an answer may wait for later commands.
 mod commands;
+mod fields;
+mod input;
 mod output;
 mod put;
 
 use commands::Kept;
-use feed::input;
-use feed::input::Window;
-use feed::text;
+use input::Window;
 
 // After a line: what is unused of the input, and what is kept.
 struct Standing {
@@ -35,17 +35,56 @@ struct Standing {
     kept: Kept,
 }
 
+// The text of n bytes. A window that is full and holds less than n has more than a text may have.
+fn text(bytes: &mut [u8; input::WIDTH], w: Window, n: u64) -> Standing {
+    let full = input::filled(bytes, w);
+    let start = full.from;
+    let end = input::front(full, n);
+    let kept = text_between(bytes, start, end);
+    let window = input::skipped(bytes, full, n);
+    Standing { window, kept }
+}
+
+fn text_between(bytes: &[u8], start: usize, end: usize) -> Kept {
+    if end <= bytes.len() {
+        if start <= end {
+            return commands::text(&bytes[start..end]);
+        }
+    }
+    commands::nothing()
+}
+
+fn is_count(bytes: &[u8], start: usize, end: usize, values: &mut [u64; fields::MOST]) -> bool {
+    if end <= bytes.len() {
+        if start <= end {
+            let f = fields::scanned(&bytes[start..end], 0, 1, values);
+            return f.ok & (f.count == 1);
+        }
+    }
+    false
+}
+
 fn first_line(bytes: &mut [u8; input::WIDTH]) -> Standing {
-    let t = text::next_text(bytes, input::new());
-    if t.ok {
-        let kept = commands::text(text::part(bytes, t.start, t.end));
-        let window = text::past(bytes, t);
-        return Standing { window, kept };
+    let w = input::ready(bytes, input::new());
+    let line = input::next_line(bytes, w);
+    let mut values = [0u64; fields::MOST];
+    let ok = is_count(bytes, line.start, line.end, &mut values);
+    let window = line.rest;
+    if ok & line.fits {
+        return text(bytes, window, values[0]);
     }
     commands::bad();
     let kept = commands::nothing();
-    let window = t.window;
     Standing { window, kept }
+}
+
+fn command(bytes: &[u8], start: usize, end: usize, kept: Kept) -> Kept {
+    if end <= bytes.len() {
+        if start <= end {
+            return commands::line(kept, &bytes[start..end]);
+        }
+    }
+    kept
 }
 
 // A line and its answer. Of a line that is too long the first piece alone has an answer.
@@ -53,7 +92,7 @@ fn turn(bytes: &mut [u8; input::WIDTH], w: Window, kept: Kept) -> Standing {
     let line = input::next_line(bytes, w);
     let window = line.rest;
     if line.fits {
-        let next = commands::line(kept, text::part(bytes, line.start, line.end));
+        let next = command(bytes, line.start, line.end, kept);
         return Standing { window, kept: next };
     }
     if !w.within {

@@ -1,5 +1,5 @@
 // Putting a value into a part of a plan, a constraint or a run state, so that vectors reach what no text says.
-use feed::fields;
+use crate::fields;
 use live::State;
 use plan::Constraint;
 use plan::MOST_PAIRS;

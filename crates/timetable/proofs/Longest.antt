@@ -68,11 +68,14 @@ module _ {p : Plan} {c : Constraint} (a : Accepted p c) (d : ℕ → ℕ) (w : A
       let t = taskAt c i in
       let m = a .task i l in
       let n : t < mostTasks = omega (arith, a .few-tasks) in
-      rw (line-length t (typeAt c i) (entryAt (ran p c d .starts) t) (entryAt (ran p c d .finishes) t))
-      (rw (getD-tabulate mostTasks (λ t. orZero (ended p c d .start t)) t 0 n)
-      (rw (getD-tabulate mostTasks (λ t. orZero (ended p c d .finish t)) t 0 n)
-      (rw (ended-start a d (allowed-lasts a d w) t m, ended-finish a d (allowed-lasts a d w) t m)
-      (rw (position-entry a i l)))))
+      rw (
+        line-length t (typeAt c i) (entryAt (ran p c d .starts) t) (entryAt (ran p c d .finishes) t),
+        getD-tabulate mostTasks (λ t. orZero (ended p c d .start t)) t 0 n,
+        getD-tabulate mostTasks (λ t. orZero (ended p c d .finish t)) t 0 n,
+        ended-start a d (allowed-lasts a d w) t m,
+        ended-finish a d (allowed-lasts a d w) t m,
+        position-entry a i l,
+      )
       (omega (
         arith,
         length-one (typeAt c i) (omega (arith, a .type i l, a .few-types)),

@@ -2,12 +2,13 @@
 // what the text is, a line with a count n, and n bytes. For each it writes that line with the number and the place that reading
 // gives; if the text is accepted, a line with its counts and what is kept of task 3 and of position 3; then the answer.
 use bench_answer::MOST_ANSWER;
-use feed::input;
-use feed::input::Window;
-use feed::text;
+use libc::STDIN_FILENO;
 use libc::STDOUT_FILENO;
 use plan::Constraint;
 use plan::Plan;
+
+// No input is longer.
+const ROOM: usize = 262144;
 
 fn put(s: &[u8]) {
     io::write_all(STDOUT_FILENO, s);
@@ -66,34 +67,82 @@ fn show(s: &[u8]) {
     show_answer(s);
 }
 
-// The window after a record. A record without a count is `bad`, and no text is read.
-fn record(bytes: &mut [u8; input::WIDTH], w: Window) -> Window {
-    let label = input::next_line(bytes, w);
-    put(text::part(bytes, label.start, label.end));
-    let t = text::next_text(bytes, label.rest);
-    if t.ok {
-        show(text::part(bytes, t.start, t.end));
-        return text::past(bytes, t);
+// The bytes from a up to e, or none where that is no part.
+fn part(bytes: &[u8], a: usize, e: usize) -> &[u8] {
+    if e <= bytes.len() {
+        if a <= e {
+            return &bytes[a..e];
+        }
     }
-    put(b"\tbad\n");
-    t.window
+    &bytes[..0]
 }
 
-// No more records than 2 to the power of 62.
-fn records(bytes: &mut [u8; input::WIDTH]) {
-    let mut w = input::new();
-    let mut left: u64 = 1 << 62;
-    while 0 < left {
-        w = input::ready(bytes, w);
-        if input::is_empty(w) {
+// Where the line that begins at a position ends: at its newline, or with the input.
+fn line_end(bytes: &[u8], at: usize) -> usize {
+    let mut e = at;
+    while e < bytes.len() {
+        if bytes[e] == b'\n' {
+            return e;
+        }
+        e += 1;
+    }
+    e
+}
+
+fn digit(b: u8) -> usize {
+    (b % 16) as usize
+}
+
+// The count that a line has; no more than the input has room for.
+fn count_of(line: &[u8]) -> usize {
+    let mut n = 0;
+    let mut i = 0;
+    while i < line.len() {
+        if ROOM <= n {
+            return ROOM;
+        }
+        n = n * 10 + digit(line[i]);
+        i += 1;
+    }
+    n
+}
+
+// Where the record that begins at a position ends: past its text, and no further than the input.
+fn record(bytes: &[u8], at: usize) -> usize {
+    let named = line_end(bytes, at);
+    let counted = line_end(bytes, following(named));
+    let start = following(counted);
+    let n = count_of(part(bytes, following(named), counted));
+    put(part(bytes, at, named));
+    let left = part(bytes, start, bytes.len());
+    if left.len() < n {
+        show(left);
+        return bytes.len();
+    }
+    show(part(left, 0, n));
+    start + n
+}
+
+fn following(at: usize) -> usize {
+    if ROOM <= at {
+        return ROOM;
+    }
+    at + 1
+}
+
+fn records(bytes: &[u8]) {
+    let mut at = 0;
+    while at < bytes.len() {
+        let next = record(bytes, at);
+        if next <= at {
             return;
         }
-        w = record(bytes, w);
-        left -= 1;
+        at = next;
     }
 }
 
 fn main() {
-    let mut bytes = io::large_buffer();
-    records(&mut bytes);
+    let mut bytes = [0; ROOM];
+    let n = io::read_full(STDIN_FILENO, &mut bytes);
+    records(part(&bytes, 0, n));
 }

@@ -1,8 +1,8 @@
--- `feed::fields::narrowed` is safe and ends. The measure is what is left of n. Assumes nothing.
+-- `driver::fields::narrowed` is safe and ends. The measure is what is left of n. Assumes nothing.
 use Prim.Native.Nat.{_-_}
 use borrow.Author.Needs.{needs}
-use Rattle.feed.proofs.fields.narrowed.Statement.{statement}
-use Rattle.feed.proofs.fields.narrowed.Tie as tie
+use Rattle.driver.proofs.fields.narrowed.Statement.{statement}
+use Rattle.driver.proofs.fields.narrowed.Tie as tie
 
 abbrev Inv-loop : tie.InvT-loop
 Inv-loop values times₀ n ok₀ i₀ times ok i = Unit {0}

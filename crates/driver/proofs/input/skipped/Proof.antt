@@ -1,7 +1,7 @@
--- `feed::input::skipped` is safe and ends. The measure is the bytes left to skip: each turn skips at least one. Assumes nothing.
+-- `driver::input::skipped` is safe and ends. The measure is how many bytes are left to skip: each turn skips at least one. Assumes nothing.
 use borrow.Author.Needs.{needs}
-use Rattle.feed.proofs.input.skipped.Statement.{statement}
-use Rattle.feed.proofs.input.skipped.Tie as tie
+use Rattle.driver.proofs.input.skipped.Statement.{statement}
+use Rattle.driver.proofs.input.skipped.Tie as tie
 
 abbrev Inv-loop : tie.InvT-loop
 Inv-loop bytes₀ n left₀ at₀ bytes left at = Unit {0}

@@ -1,9 +1,9 @@
--- `feed::fields::scanned` is safe and ends. The measure is what is left of the line. Assumes nothing.
+-- `driver::fields::scanned` is safe and ends. The measure is what is left of the line. Assumes nothing.
 use Prim.Native.Nat.{_-_}
 use lib.ListN.{length}
 use borrow.Author.Needs.{needs}
-use Rattle.feed.proofs.fields.scanned.Statement.{statement}
-use Rattle.feed.proofs.fields.scanned.Tie as tie
+use Rattle.driver.proofs.fields.scanned.Statement.{statement}
+use Rattle.driver.proofs.fields.scanned.Tie as tie
 
 abbrev Inv-loop : tie.InvT-loop
 Inv-loop line from begun values₀ s₀ i₀ values s i = Unit {0}

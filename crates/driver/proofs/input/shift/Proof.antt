@@ -1,8 +1,8 @@
--- `feed::input::shift` is safe and ends. The measure is what is left of n. Assumes nothing.
+-- `driver::input::shift` is safe and ends. The measure is what is left of n. Assumes nothing.
 use Prim.Native.Nat.{_-_}
 use borrow.Author.Needs.{needs}
-use Rattle.feed.proofs.input.shift.Statement.{statement}
-use Rattle.feed.proofs.input.shift.Tie as tie
+use Rattle.driver.proofs.input.shift.Statement.{statement}
+use Rattle.driver.proofs.input.shift.Tie as tie
 
 abbrev Inv-loop : tie.InvT-loop
 Inv-loop bytes₀ from n i₀ bytes i = Unit {0}

@@ -1,8 +1,8 @@
--- `feed::input::newline` is safe and ends. The measure is what is left up to `to`. Assumes nothing.
+-- `driver::input::newline` is safe and ends. The measure is what is left up to `to`. Assumes nothing.
 use Prim.Native.Nat.{_-_}
 use borrow.Author.Needs.{needs}
-use Rattle.feed.proofs.input.newline.Statement.{statement}
-use Rattle.feed.proofs.input.newline.Tie as tie
+use Rattle.driver.proofs.input.newline.Statement.{statement}
+use Rattle.driver.proofs.input.newline.Tie as tie
 
 abbrev Inv-loop : tie.InvT-loop
 Inv-loop bytes from to i₀ i = Unit {0}
