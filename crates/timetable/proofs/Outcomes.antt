@@ -14,7 +14,7 @@ use Rattle.plan.specs.Buffers.{atStart}
 use Rattle.simulation.specs.declared.Simulation.{Simulation}
 use Rattle.timetable.specs.declared.Written.{Written}
 use Rattle.timetable.specs.Decimal.{decimal}
-use Rattle.timetable.specs.Table.{textOf}
+use Rattle.timetable.specs.Table.{textOf, answered, bytesAfter}
 use Rattle.timetable.specs.Refusal.{refusalLine, lineWritten, lineAfter}
 use Rattle.timetable.specs.Steps.{Room, Put, Outcome}
 use Rattle.timetable.proofs.Digits.{decimal-longest}
@@ -44,10 +44,13 @@ module _ (v : Verdict) (text b : List ℕ) where
           bytes = p .bytes ∙ sets-eq text b 0 (r .fits) ∙ ap (λ (k : ℕ). text ++ drop k b) z ∙ o .bytes;
         }
 
--- what is answered for one simulation is answered for one that is the same
+-- what is answered for a simulation, in the words of the promises
 pub by-run : (c : Constraint) {s t : Simulation} {b b₁ : List ℕ} {w : Written} → s ≡ t
-    → Outcome (refused (s .number) (s .place)) (textOf c s) b w b₁ → Outcome (refused (t .number) (t .place)) (textOf c t) b w b₁
-by-run c {b = b} {b₁} {w} = subst (λ (s : Simulation). Outcome (refused (s .number) (s .place)) (textOf c s) b w b₁)
+    → Outcome (refused (s .number) (s .place)) (textOf c s) b w b₁
+    → (w ≡ answered (refused (t .number) (t .place)) (textOf c t) (length b))
+    × (b₁ ≡ bytesAfter (refused (t .number) (t .place)) (textOf c t) b)
+by-run c {b = b} {b₁} {w} e o =
+    let x = subst (λ (s : Simulation). Outcome (refused (s .number) (s .place)) (textOf c s) b w b₁) e o in (x .answer, x .bytes)
 
 -- ---- the line of a refusal
 

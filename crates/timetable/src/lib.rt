@@ -5,12 +5,12 @@ ghost use lib.ListN.{length};
 ghost use Rattle.plan.specs.Rules.{mostTasks};
 ghost use Rattle.plan.specs.Refusals.{refused};
 ghost use Rattle.timetable.specs.Steps.{Outcome};
-ghost use Rattle.timetable.specs.Table.{bufferAfter, textBy, timetabled, worstBufferAfter, worstTimetabled};
+ghost use Rattle.timetable.specs.Table.{bufferAfter, textOf, timetabled, worstBufferAfter, worstTimetabled};
 use lines::put_text;
 use lines::text_length;
 use plan::Constraint;
-use plan::MOST_TASKS;
 use plan::Plan;
+use simulation::Simulation;
 
 mod decimal;
 mod lines;
@@ -28,23 +28,13 @@ pub struct Written {
     pub written: usize,
 }
 
-// The timetable of a run: its refusal, or 19 where the buffer is too short, or the text is written.
-fn write_run<'a>(
-    number: u32,
-    place: usize,
-    order: &'a [usize; MOST_TASKS],
-    chosen: &'a [usize; MOST_TASKS],
-    starts: &'a [u32],
-    finishes: &'a [u32],
-    len: usize,
-    response: usize,
-    buffer: &mut [u8],
-) -> Written
-    requires { ⌜ (number ≡ 0 → len ≤ mostTasks) ⌝ }
-    ensures { λ r. ⌜ Outcome (refused number place)
-        (textBy (now (order .entry)) (now (chosen .entry)) (now (starts .entry)) (now (finishes .entry)) len response)
-        (now (buffer .entry)) r (now (buffer .exit)) ⌝ }
+// The timetable of a simulation: its refusal, or 19 where the buffer is too short, or the text is written.
+fn write_run(c: Constraint, s: Simulation, buffer: &mut [u8]) -> Written
+    requires { ⌜ (s .number ≡ 0 → c .len ≤ mostTasks) ⌝ }
+    ensures { λ r. ⌜ Outcome (refused (s .number) (s .place)) (textOf c s) (now (buffer .entry)) r (now (buffer .exit)) ⌝ }
 {
+    let number = s.number;
+    let place = s.place;
     if number != 0 {
         return Written {
             number,
@@ -52,7 +42,9 @@ fn write_run<'a>(
             written: 0,
         };
     }
-    let needed = text_length(order, chosen, starts, finishes, len, response);
+    let len = c.len;
+    let response = s.response as usize;
+    let needed = text_length(&c.order, &c.chosen, &s.starts, &s.finishes, len, response);
     if buffer.len() < needed {
         return Written {
             number: 19,
@@ -60,7 +52,15 @@ fn write_run<'a>(
             written: 0,
         };
     }
-    let written = put_text(order, chosen, starts, finishes, len, response, buffer);
+    let written = put_text(
+        &c.order,
+        &c.chosen,
+        &s.starts,
+        &s.finishes,
+        len,
+        response,
+        buffer,
+    );
     Written {
         number: 0,
         place: 0,
@@ -74,21 +74,7 @@ pub fn timetable(p: Plan, c: Constraint, times: &[u32], buffer: &mut [u8]) -> Wr
         × (now (buffer .exit) ≡ bufferAfter p c (now (times .entry)) (now (buffer .entry))) ⌝ }
 {
     let s = simulation::simulate(p, c, times);
-    let number = s.number;
-    let place = s.place;
-    let len = c.len;
-    let response = s.response as usize;
-    write_run(
-        number,
-        place,
-        &c.order,
-        &c.chosen,
-        &s.starts,
-        &s.finishes,
-        len,
-        response,
-        buffer,
-    )
+    write_run(c, s, buffer)
 }
 
 // The timetable of the run in which each task takes its worst time.
@@ -97,19 +83,5 @@ pub fn worst_timetable(p: Plan, c: Constraint, buffer: &mut [u8]) -> Written
         × (now (buffer .exit) ≡ worstBufferAfter p c (now (buffer .entry))) ⌝ }
 {
     let s = simulation::bound(p, c);
-    let number = s.number;
-    let place = s.place;
-    let len = c.len;
-    let response = s.response as usize;
-    write_run(
-        number,
-        place,
-        &c.order,
-        &c.chosen,
-        &s.starts,
-        &s.finishes,
-        len,
-        response,
-        buffer,
-    )
+    write_run(c, s, buffer)
 }

@@ -8,13 +8,9 @@ use Rattle.timetable.proofs.timetable.Tie as tie
 
 returns : tie.Need-returns
 unfolding timetabled bufferAfter
-returns c =
-    let w = c .before .before in
-    let s = w .before .before .before .before .before .before .before .before .before .before in
-    let o = by-run _ (s .simulate .ensures) (w .write-run .ensures) in (o .answer, o .bytes)
+returns c = let w = c .before .before in by-run _ (w .before .before .simulate .ensures) (w .write-run .ensures)
 
 pub timetable-spec : {M : Type 1} → statement M
 timetable-spec =
-    tie.close (tie.spec (λ c κs. search needs) (λ c. search needs)
-    (λ c κs. let l = c .before .before .before .before in
-    few (simulated-taken _ _ _) (l .before .before .before .before .before .simulate .ensures)) (λ c. search needs) returns)
+    tie.close (tie.spec (λ c κs. search needs) (λ c κs. few (simulated-taken _ _ _) (c .before .simulate .ensures))
+    (λ c. search needs) returns)

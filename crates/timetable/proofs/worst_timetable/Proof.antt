@@ -8,13 +8,9 @@ use Rattle.timetable.proofs.worst_timetable.Tie as tie
 
 returns : tie.Need-returns
 unfolding worstTimetabled worstBufferAfter
-returns c =
-    let w = c .before .before in
-    let s = w .before .before .before .before .before .before .before .before .before .before in
-    let o = by-run _ (s .bound .ensures .0) (w .write-run .ensures) in (o .answer, o .bytes)
+returns c = let w = c .before .before in by-run _ (w .before .before .bound .ensures .0) (w .write-run .ensures)
 
 pub worst-timetable-spec : {M : Type 1} → statement M
 worst-timetable-spec =
-    tie.close (tie.spec (λ c κs. search needs) (λ c. search needs)
-    (λ c κs. few (worst-taken _ _) (c .before .before .before .before .before .before .before .before .before .bound .ensures .0))
+    tie.close (tie.spec (λ c κs. search needs) (λ c κs. few (worst-taken _ _) (c .before .bound .ensures .0))
     (λ c. search needs) returns)
