@@ -29,6 +29,8 @@ abbrev Lined : ℕ → ℕ → List ℕ → ℕ → List ℕ → Type 0
 Lined number place b n b₁ =
     (n ≡ lineWritten (length b) (refusalLine number place)) × (b₁ ≡ lineAfter b (refusalLine number place))
 
+-- ---- the answer to a text; `room`: the code lends just the bytes that the definition gives the longest timetable
+
 module _ (text : List ℕ) {a : Answer} (e : a ≡ readText text) (b : List ℕ) (room : length b ≡ longestTimetable) where
   -- the timetable of worst times, and what is refused there
   abbrev s : Simulation
