@@ -1,6 +1,7 @@
 // Plan texts through the reader, and through the answer that the program writes. Standard input has records: a line that says
 // what the text is, a line with a count n, and n bytes. For each it writes that line with the number and the place that reading
 // gives; if the text is accepted, a line with its counts and what is kept of task 3 and of position 3; then the answer.
+ghost use Prim.Native.Nat.{_<_, _≤_};
 use bench_answer::MOST_ANSWER;
 use libc::STDIN_FILENO;
 use libc::STDOUT_FILENO;
@@ -89,12 +90,16 @@ fn line_end(bytes: &[u8], at: usize) -> usize {
     e
 }
 
-fn digit(b: u8) -> usize {
+fn digit(b: u8) -> usize
+    ensures { λ r. ⌜ r < 16 ⌝ }
+{
     (b % 16) as usize
 }
 
-// The count that a line has; no more than the input has room for.
-fn count_of(line: &[u8]) -> usize {
+// The count that a line has, or one that is more than the input has room for.
+fn count_of(line: &[u8]) -> usize
+    ensures { λ r. ⌜ r ≤ 2621455 ⌝ }
+{
     let mut n = 0;
     let mut i = 0;
     while i < line.len() {
@@ -123,7 +128,9 @@ fn record(bytes: &[u8], at: usize) -> usize {
     start + n
 }
 
-fn following(at: usize) -> usize {
+fn following(at: usize) -> usize
+    ensures { λ r. ⌜ r ≤ 262144 ⌝ }
+{
     if ROOM <= at {
         return ROOM;
     }
