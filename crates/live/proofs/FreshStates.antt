@@ -1,17 +1,15 @@
 -- The state that a run begins with. Assumes nothing.
-use mathlib.Core.Path.{_≡_, refl, sym, ap, _∙_}
+use mathlib.Core.Path.{_≡_, refl, ap}
+use mathlib.Core.Bool.{true}
 use mathlib.Core.List.{List}
 use Prim.Native.Nat.{ℕ, _≤_, zero-le}
-use native.Mathlib.Nat.{le-refl}
-use native.Mathlib.Omega.{arith}
-use borrow.Author.Tests.{eq-eqb, ne-eqb, ltb-true, ltb-false}
-use lib.Dec.{ltb}
-use lib.ListN.{getD, length, replicate, length-replicate, getD-replicate, List·getD-eq-default}
+use borrow.Author.Tests.{eq-eqb, ne-eqb}
+use lib.ListN.{getD, replicate, length-replicate, getD-replicate}
 use lib.Pow.{pow-pos}
 use Rattle.task_set.specs.Bounded.{any}
-use Rattle.task_set.specs.Sets.{width}
-use Rattle.task_set.proofs.Truth.{by-test, clash}
-use Rattle.task_set.proofs.Members.{has-none, set-ext, setOf-small, without-small}
+use Rattle.task_set.specs.Sets.{width, without}
+use Rattle.task_set.proofs.Truth.{clash}
+use Rattle.task_set.proofs.Members.{has-none}
 use Rattle.plan.specs.declared.Plan.{Plan}
 use Rattle.plan.specs.declared.Constraint.{Constraint}
 use Rattle.plan.specs.declared.Verdict.{Verdict}
@@ -22,20 +20,18 @@ use Rattle.runs.proofs.Closed.{notes-ext}
 use Rattle.live.specs.declared.State.{State}
 use Rattle.live.specs.States.{isStarted, notesOf, noState}
 use Rattle.live.specs.Ticks.{moved, stayed, started}
-use Rattle.live.specs.Steps.{firstTasks, runningOf, stateFrom, usersOf, walkedOn, Tidy, Walkable}
-use Rattle.live.proofs.StateBack.{running-notes}
+use Rattle.live.specs.Steps.{stateFrom, usersOf, walkedOn, Tidy, Walkable}
+use Rattle.live.proofs.Standing.{tasks-none}
+use Rattle.live.proofs.StateBack.{past-zero}
 
 zeros : (t : ℕ) → _≡_ {A = ℕ} (getD (replicate mostTasks 0) t 0) 0
-zeros t =
-    by-test (ltb t mostTasks) (λ e. getD-replicate {A = ℕ} mostTasks t 0 0 (ltb-true t mostTasks e))
-    (λ e. let l : length (replicate {A = ℕ} mostTasks 0) ≤ t = omega (arith, ltb-false t mostTasks e) in
-    List·getD-eq-default (replicate {A = ℕ} mostTasks 0) 0 l)
+zeros t = past-zero (replicate mostTasks 0) t (length-replicate {A = ℕ} mostTasks 0) (getD-replicate {A = ℕ} mostTasks t 0 0)
 
 module _ (p : Plan) (c : Constraint) where
   abbrev pub fresh : State
   fresh = stateFrom p c 0 0 0 (replicate mostTasks 0) (replicate mostTasks 0)
 
-  fresh-tidy : verdict p c .number ≡ 0 → Tidy fresh
+  pub fresh-tidy : verdict p c .number ≡ 0 → Tidy fresh
   fresh-tidy ok =
       record {
         checked = ok;
@@ -49,15 +45,10 @@ module _ (p : Plan) (c : Constraint) where
       }
 
   pub fresh-walkable : verdict p c .number ≡ 0 → {users : List ℕ} → users ≡ usersOf fresh → Walkable fresh users 0
-  unfolding isStarted any firstTasks
-  fresh-walkable ok e = record { tidy = fresh-tidy ok; users-are = e; running-are = none }
-    where
-      none : 0 ≡ runningOf fresh
-      none =
-          set-ext width 0 (runningOf fresh) (pow-pos width) (without-small width _ 0 (setOf-small width _ (le-refl width)))
-          (λ t l. has-none t ∙ sym (running-notes fresh t l))
+  unfolding without
+  fresh-walkable ok e = record { tidy = fresh-tidy ok; users-are = e; running-are = rw (tasks-none (c .order) (λ j. true)) refl }
 
-  fresh-notes : notesOf fresh ≡ blank
+  pub fresh-notes : notesOf fresh ≡ blank
   unfolding isStarted any
   fresh-notes = notes-ext refl (λ t. refl) (λ t. rw (has-none t) refl)
 
@@ -68,4 +59,5 @@ module _ (p : Plan) (c : Constraint) where
 
   pub start-walked : verdict p c .number ≡ 0 → walkedOn fresh ≡ started p c
   unfolding started opening
-  start-walked ok = rw (eq-eqb (verdict p c .number) 0 ok) (ap (λ (n : Notes). moved p c n (dispatch p c (entries c) n)) fresh-notes)
+  start-walked ok =
+      rw (eq-eqb (verdict p c .number) 0 ok) (ap (λ (n : Notes). moved p c n (dispatch p c (entries c) n)) fresh-notes)

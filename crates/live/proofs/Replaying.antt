@@ -1,6 +1,5 @@
 -- Ticks for the reports of a list, one after the other: what is left gives the whole. Assumes nothing.
 use mathlib.Core.Path.{_≡_, refl, sym, ap, _∙_}
-use mathlib.Core.Bool.{Bool}
 use mathlib.Core.List.{List, [], _∷_, map}
 use Prim.Native.Nat.{ℕ, suc, _+_, _≤_, _<_, min}
 use native.Mathlib.Nat.{zero-add}
@@ -23,6 +22,7 @@ use Rattle.live.specs.States.{noState}
 use Rattle.live.specs.Ticks.{started, ticked}
 use Rattle.live.specs.Lists.{stateAfter, saidAfter}
 use Rattle.live.specs.Replays.{replayVerdict, replayed, roomIn, Replays}
+use Rattle.live.specs.Steps.{afterEach}
 use Rattle.live.proofs.Claims.{claim}
 
 length-said : (s : State) (reports : List ℕ) → length (saidAfter s reports) ≡ length reports
@@ -36,13 +36,8 @@ Outcome = State × (List ℕ × (List ℕ × List ℕ))
 
 abbrev pub outcome : State → List ℕ → ℕ → List ℕ → List ℕ → List ℕ → Outcome
 outcome s reports i numbers places sets =
-    let said = saidAfter s reports in (
-      stateAfter s reports,
-      (
-        stores numbers i (map (λ a. a .number) said),
-        (stores places i (map (λ a. a .place) said), stores sets i (map (λ a. a .started) said)),
-      ),
-    )
+    let part : (Answer → ℕ) → List ℕ → List ℕ = λ f buffer. stores buffer i (map f (saidAfter s reports)) in
+    (stateAfter s reports, (part (λ a. a .number) numbers, (part (λ a. a .place) places, part (λ a. a .started) sets)))
 
 module _ (reports numbers₀ places₀ sets₀ : List ℕ) (first : State) where
   -- i of the reports are answered: the others lead to the whole
@@ -69,23 +64,15 @@ module _ (reports numbers₀ places₀ sets₀ : List ℕ) (first : State) where
       }
 
   pub answered-all : {numbers places sets : List ℕ} {s : State} {i : ℕ} → length reports ≤ roomIn numbers₀ places₀ sets₀
-      → length reports ≤ i
-      → Answered numbers places sets s i
-      → (s ≡ stateAfter first reports)
-      × ((numbers ≡ atStart (map (λ a. a .number) (saidAfter first reports)) numbers₀)
-      × ((places ≡ atStart (map (λ a. a .place) (saidAfter first reports)) places₀)
-      × (sets ≡ atStart (map (λ a. a .started) (saidAfter first reports)) sets₀)))
+      → length reports ≤ i → Answered numbers places sets s i
+      → (s, (numbers, (places, sets))) ≡ afterEach first reports numbers₀ places₀ sets₀
   unfolding stateAfter saidAfter
   answered-all room h a =
-      let e = rw (drop-of-length-le reports h) at (a .makes) in (
-        ap (λ (x : Outcome). x .0) e,
-        (
-          ap (λ (x : Outcome). x .1 .0) e ∙ whole (λ r. r .number) numbers₀ (omega arith),
-          (
-            ap (λ (x : Outcome). x .1 .1 .0) e ∙ whole (λ r. r .place) places₀ (omega arith),
-            ap (λ (x : Outcome). x .1 .1 .1) e ∙ whole (λ r. r .started) sets₀ (omega arith),
-          ),
-        ),
+      (rw (drop-of-length-le reports h) at (a .makes))
+      ∙ rw (
+        whole (λ r. r .number) numbers₀ (omega arith),
+        whole (λ r. r .place) places₀ (omega arith),
+        whole (λ r. r .started) sets₀ (omega arith),
       )
     where
       whole : (part : Answer → ℕ) (buffer : List ℕ) → length reports ≤ length buffer
@@ -107,14 +94,16 @@ fitted-room v needed room e ok =
 
 -- start refuses as the check does, and then 19 is tried
 pub judged : (p : Plan) (c : Constraint) {t : Ticked} {v : Verdict} (n x y z : ℕ) {short room : ℕ} → t ≡ started p c
-    → short ≡ min y z → room ≡ min x short → v ≡ fitted (refused (t .number) (t .place)) n room → v ≡ fitted (verdict p c) n (min x (min y z))
+    → short ≡ min y z → room ≡ min x short → v ≡ fitted (refused (t .number) (t .place)) n room
+    → v ≡ fitted (verdict p c) n (min x (min y z))
 unfolding started firstRefusal
 judged p c n x y z e f g h = rw (h, g, f, e) (by-test (eqb (verdict p c .number) 0) (λ q. rw q) (λ q. rw (q, q)))
 
 module _ (p : Plan) (c : Constraint) (reports numbers places sets : List ℕ) {v : Verdict}
     (e : v ≡ replayVerdict p c reports (roomIn numbers places sets)) where
   pub replays-refused : (v .number ≡ 0 → ⊥) → {s : State} → s ≡ noState
-      → Replays p c reports numbers places sets (record { number = v .number; place = v .place; started = 0; state = s }) numbers places sets
+      → Replays p c reports numbers places sets (record { number = v .number; place = v .place; started = 0; state = s })
+      numbers places sets
   unfolding replayed
   replays-refused f none =
       let g = rw e at (ne-eqb (v .number) 0 f) in
@@ -127,24 +116,24 @@ module _ (p : Plan) (c : Constraint) (reports numbers places sets : List ℕ) {v
       }
 
   pub replays-whole : v .number ≡ 0 → {t : Ticked} → t ≡ started p c → {s : State} {numbers' places' sets' : List ℕ}
-      → (s ≡ stateAfter (t .state) reports)
-      × ((numbers' ≡ atStart (map (λ a. a .number) (saidAfter (t .state) reports)) numbers)
-      × ((places' ≡ atStart (map (λ a. a .place) (saidAfter (t .state) reports)) places)
-      × (sets' ≡ atStart (map (λ a. a .started) (saidAfter (t .state) reports)) sets)))
-      → Replays p c reports numbers places sets (record { number = 0; place = 0; started = t .started; state = s }) numbers' places' sets'
+      → (s, (numbers', (places', sets'))) ≡ afterEach (t .state) reports numbers places sets
+      → Replays p c reports numbers places sets (record { number = 0; place = 0; started = t .started; state = s })
+      numbers' places' sets'
   unfolding replayed
   replays-whole ok opened ticks =
       let g = rw e at (eq-eqb (v .number) 0 ok) in
+      let ran = rw opened at ticks in
       record {
-        answer = rw (ticks .0, opened, g);
-        numbered = rw (g, ← opened) (ticks .1 .0);
-        placed = rw (g, ← opened) (ticks .1 .1 .0);
-        begun = rw (g, ← opened) (ticks .1 .1 .1);
+        answer = rw (ap (λ (x : Outcome). x .0) ran, opened, g);
+        numbered = rw g (ap (λ (x : Outcome). x .1 .0) ran);
+        placed = rw g (ap (λ (x : Outcome). x .1 .1 .0) ran);
+        begun = rw g (ap (λ (x : Outcome). x .1 .1 .1) ran);
         faithful = λ ok. claim p c ok reports;
       }
 
 -- a list that replay does not refuse has room
-pub had-room : (p : Plan) (c : Constraint) (reports : List ℕ) (room : ℕ) → replayed p c reports room .number ≡ 0 → length reports ≤ room
+pub had-room : (p : Plan) (c : Constraint) (reports : List ℕ) (room : ℕ) → replayed p c reports room .number ≡ 0
+    → length reports ≤ room
 unfolding replayed
 had-room p c reports room ok =
     fitted-room (verdict p c) (length reports) room refl

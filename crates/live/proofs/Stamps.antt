@@ -1,4 +1,4 @@
--- The finishes with the reported tasks stamped, as the loop gathers them: the lowest task left is stamped and removed. Assumes nothing.
+-- The finishes with the reported tasks stamped, as the loop goes: the lowest task left is stamped and removed. Assumes nothing.
 use mathlib.Core.Path.{_≡_, refl, sym, _∙_}
 use mathlib.Core.Bool.{and-true, and-false}
 use mathlib.Core.List.{List}
@@ -23,7 +23,8 @@ pub record Stamped (whole : List ℕ) (instant : ℕ) (stamps : List ℕ) (left 
   pub makes : tabulate mostTasks (stampAt stamps left instant) ≡ whole
 
 -- none is left
-pub stamped-all : {whole : List ℕ} (instant : ℕ) {stamps : List ℕ} {left : ℕ} → left ≡ 0 → Stamped whole instant stamps left → stamps ≡ whole
+pub stamped-all : {whole : List ℕ} (instant : ℕ) {stamps : List ℕ} {left : ℕ} → left ≡ 0
+    → Stamped whole instant stamps left → stamps ≡ whole
 unfolding stampAt
 stamped-all instant {stamps} e s = sym (table-list _ stamps (s .long) (λ t. rw (e, has-none t) refl)) ∙ s .makes
 
@@ -39,9 +40,11 @@ module _ (left : ℕ) (fits : left < 2 ^ width) (some : left ≡ 0 → ⊥) wher
       → stampAt (set stamps t instant) (remove left t) instant u ≡ stampAt stamps left instant u
   unfolding stampAt
   stamp-one stamps instant u l =
-      by-test (eqb t u)
-      (λ e. rw (has-remove left t u low, e, and-false (has left u), ← eqb-true t u e, lowest-member left fits some) (getD-set-same stamps t instant 0 (omega (arith, low))))
-      (λ e. rw (has-remove left t u low, e, and-true (has left u), getD-set-other stamps t u instant 0 (λ q. eqb-false t u e (sym q))) refl)
+      rw (has-remove left t u low)
+      (by-test (eqb t u)
+      (λ e. rw (e, and-false (has left u), ← eqb-true t u e, lowest-member left fits some)
+      (getD-set-same stamps t instant 0 (omega (arith, low))))
+      (λ e. rw (e, and-true (has left u), getD-set-other stamps t u instant 0 (λ q. eqb-false t u e (sym q))) refl))
 
   pub stamped-more : {whole : List ℕ} (instant : ℕ) {stamps : List ℕ} → Stamped whole instant stamps left
       → Stamped whole instant (set stamps t instant) (remove left t)

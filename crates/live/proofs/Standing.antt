@@ -7,35 +7,39 @@ use native.Mathlib.Nat.{le-refl}
 use borrow.Author.Tests.{lt-ltb, eq-eqb, ne-eqb}
 use lib.Dec.{eqb}
 use lib.ListN.{getD, set}
-use lib.Pow.{pow-pos}
 use Rattle.task_set.specs.Bounded.{any, tabulate}
-use Rattle.task_set.specs.Sets.{width, has, insert}
+use Rattle.task_set.specs.Sets.{width, has, insert, setOf}
 use Rattle.task_set.proofs.Bounded.{any-next}
-use Rattle.task_set.proofs.Members.{has-none, has-insert-low, insert-small, has-setOf, setOf-small, set-ext}
+use Rattle.task_set.proofs.Members.{has-insert-low, insert-small, has-setOf, setOf-small, set-ext}
 use Rattle.task_set.proofs.Tables.{getD-tabulate, set-tabulate}
 use Rattle.plan.specs.Rules.{mostTypes}
 use Rattle.plan.specs.Refusals.{entryAt}
-use Rattle.live.specs.Steps.{tasksAt, firstTasks, typeUsers}
+use Rattle.live.specs.declared.State.{State}
+use Rattle.live.specs.Steps.{tasksAt, typeUsers}
 
--- membership below the width
-pub has-tasks : (order : List ℕ) (n : ℕ) (q : ℕ → Bool) (t : ℕ) → t < width → has (tasksAt order n q) t ≡ any n (λ j. q j && eqb (entryAt order j) t)
-unfolding tasksAt
-has-tasks order n q t l = has-setOf width _ t (le-refl width) ∙ rw (lt-ltb t width l) refl
+-- the task and the type at position j of a state's order
+abbrev pub taskAt : State → ℕ → ℕ
+taskAt s j = entryAt (s .constraint .order) j
 
-pub tasks-small : (order : List ℕ) (n : ℕ) (q : ℕ → Bool) → tasksAt order n q < 2 ^ width
-unfolding tasksAt
-tasks-small order n q = setOf-small width _ (le-refl width)
+abbrev pub typeAt : State → ℕ → ℕ
+typeAt s j = entryAt (s .constraint .chosen) j
 
--- ---- the loops: none, and one position more
+module _ (order : List ℕ) (n : ℕ) (q : ℕ → Bool) where
+  -- membership below the width
+  pub has-tasks : (t : ℕ) → t < width → has (tasksAt order n q) t ≡ any n (λ j. q j && eqb (entryAt order j) t)
+  unfolding tasksAt
+  has-tasks t l = has-setOf width _ t (le-refl width) ∙ rw (lt-ltb t width l) refl
 
-pub tasks-none : (order : List ℕ) (q : ℕ → Bool) → 0 ≡ tasksAt order 0 q
-unfolding any
+  pub tasks-small : tasksAt order n q < 2 ^ width
+  unfolding tasksAt
+  tasks-small = setOf-small width _ (le-refl width)
+
+pub tasks-none : (order : List ℕ) (q : ℕ → Bool) → tasksAt order 0 q ≡ 0
+unfolding tasksAt setOf any
 tasks-none order q =
-    set-ext width 0 (tasksAt order 0 q) (pow-pos width) (tasks-small order 0 q) (λ t l. has-none t ∙ sym (has-tasks order 0 q t l ∙ none t))
-  where
-    none : (t : ℕ) → any 0 (λ j. q j && eqb (entryAt order j) t) ≡ false
-    none t = refl
+    let e : (t : ℕ) → any 0 (λ j. q j && eqb (entryAt order j) t) ≡ false = λ t. refl in ap (setOf width) (fun-ext e)
 
+-- one position more
 tasks-more : (order : List ℕ) (n : ℕ) (q : ℕ → Bool)
     → cond (q n) (insert (tasksAt order n q) (entryAt order n)) (tasksAt order n q) ≡ tasksAt order (n + 1) q
 tasks-more order n q =
@@ -45,13 +49,16 @@ tasks-more order n q =
     s : ℕ
     s = tasksAt order n q
 
-    small : (b : Bool) → cond b (insert s (entryAt order n)) s < 2 ^ width
-    small true = insert-small s (entryAt order n) (tasks-small order n q)
+    e : ℕ
+    e = entryAt order n
+
+    small : (b : Bool) → cond b (insert s e) s < 2 ^ width
+    small true = insert-small s e (tasks-small order n q)
     small false = tasks-small order n q
 
     grown : (b : Bool) (t : ℕ) → t < width
-        → has (cond b (insert s (entryAt order n)) s) t ≡ any n (λ j. q j && eqb (entryAt order j) t) || (b && eqb (entryAt order n) t)
-    grown true t l = has-insert-low s (entryAt order n) t l ∙ ap (λ (b : Bool). b || eqb (entryAt order n) t) (has-tasks order n q t l)
+        → has (cond b (insert s e) s) t ≡ any n (λ j. q j && eqb (entryAt order j) t) || (b && eqb e t)
+    grown true t l = has-insert-low s e t l ∙ ap (λ (b : Bool). b || eqb e t) (has-tasks order n q t l)
     grown false t l = has-tasks order n q t l ∙ sym (or-false _)
 
 -- the same from what a loop holds, what it tests and what it holds next
@@ -59,31 +66,14 @@ pub tasks-step : (order : List ℕ) (n : ℕ) (q : ℕ → Bool) {s r : ℕ} {b 
     → r ≡ cond b (insert s (entryAt order n)) s → r ≡ tasksAt order (n + 1) q
 tasks-step order n q e f g = g ∙ rw (e, f) (tasks-more order n q)
 
--- the first tasks are those that pass no further test
-pub first-all : (order : List ℕ) (n : ℕ) → tasksAt order n (λ j. true) ≡ firstTasks order n
-unfolding tasksAt firstTasks
-first-all order n = refl
-
-pub has-first : (order : List ℕ) (n t : ℕ) → t < width → has (firstTasks order n) t ≡ any n (λ j. eqb (entryAt order j) t)
-has-first order n t l = ap (λ (x : ℕ). has x t) (sym (first-all order n)) ∙ has-tasks order n (λ j. true) t l
-
--- ---- the sets of users of each type
-
-pub users-none : (order chosen : List ℕ) → tabulate mostTypes (λ k. 0) ≡ tabulate mostTypes (typeUsers order chosen 0)
-unfolding typeUsers
-users-none order chosen = ap (tabulate mostTypes) (fun-ext (λ k. tasks-none order (λ j. eqb (entryAt chosen j) k)))
-
--- the next position is a user of its own type alone
+-- each type's users: the next position is one of its own type alone
 pub users-more : (order chosen : List ℕ) (n : ℕ) {users : List ℕ} {s : ℕ} → entryAt chosen n < mostTypes
-    → users ≡ tabulate mostTypes (typeUsers order chosen n)
-    → s ≡ insert (getD users (entryAt chosen n) 0) (entryAt order n)
+    → users ≡ tabulate mostTypes (typeUsers order chosen n) → s ≡ insert (getD users (entryAt chosen n) 0) (entryAt order n)
     → set users (entryAt chosen n) s ≡ tabulate mostTypes (typeUsers order chosen (n + 1))
-unfolding typeUsers
 users-more order chosen n l e f =
+    let k = entryAt chosen n in
     rw (f, e, getD-tabulate mostTypes (typeUsers order chosen n) k 0 l)
-    (ap (set (tabulate mostTypes (typeUsers order chosen n)) k) (rw (eq-eqb k k refl) at (tasks-more order n (λ j. eqb (entryAt chosen j) k)))
+    (ap (set (tabulate mostTypes (typeUsers order chosen n)) k)
+    (rw (eq-eqb k k refl) at (tasks-more order n (λ j. eqb (entryAt chosen j) k)))
     ∙ set-tabulate mostTypes (typeUsers order chosen n) (typeUsers order chosen (n + 1)) k
     (λ i h. rw (ne-eqb k i (λ q. h (sym q))) at (tasks-more order n (λ j. eqb (entryAt chosen j) i))))
-  where
-    k : ℕ
-    k = entryAt chosen n

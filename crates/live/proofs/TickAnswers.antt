@@ -25,12 +25,12 @@ use Rattle.live.specs.Soundness.{isSound}
 use Rattle.live.specs.Ticks.{moved, stayed, tickVerdict, ticked}
 use Rattle.live.specs.declared.sets.Marks.{Marks}
 use Rattle.live.specs.declared.verdicts.Judged.{Judged}
-use Rattle.live.specs.Steps.{reached, runningOf, usersOf, unlessEmpty, verdictBy, stampAt, walkedOn, Judges}
+use Rattle.live.specs.Steps.{runningOf, usersOf, unlessEmpty, verdictBy, stampAt, walkedOn, Judges}
 use Rattle.live.proofs.Marking.{marksIn}
 use Rattle.live.proofs.Standing.{tasks-small}
 use Rattle.live.proofs.StateBack.{over-notes}
 use Rattle.live.proofs.Reports.{unless-set, idle-set, early-set, overdue-set}
-use Rattle.live.proofs.ReportedStates.{nextState, Shaped, sound-checked, sound-few, reported-notes}
+use Rattle.live.proofs.ReportedStates.{nextState, Shaped, sound-checked, sound-few, sound-tidy, reported-notes}
 
 module _ (s : State) (report : ℕ) where
   pub says-12 : isSound s ≡ false → tickVerdict s report ≡ refused 12 0
@@ -64,19 +64,12 @@ module _ (s : State) (report : ℕ) where
           → unlessAt 15 width (early (s .plan) (s .constraint) (notesOf s) report)
           (unlessAt 16 width (overdue (s .plan) (s .constraint) (notesOf s) report) accepted)
           ≡ unlessEmpty 15 earlies (unlessEmpty 16 overdues accepted)
-      unfolding reached
       after-14 e =
-          unless-set 15 _ _ (without-small width report _ small) (early-set s a few report no-idle)
+          unless-set 15 _ _ (without-small width report _ small)
+          (λ t l. early-set s a few report t l (sym (idle-set s report t l) ∙ ap (λ (x : ℕ). has x t) e ∙ has-none t))
           ∙ ap (unlessEmpty 15 earlies)
-          (unless-set 16 _ _ (without-small width _ report (lt-of-le-of-lt (and-le-l _ _) (tasks-small _ _ _))) (overdue-set s a few report))
-        where
-          no-idle : (t : ℕ) → t < width → idle (notesOf s) report t ≡ false
-          no-idle t l = sym (idle-set s report t l) ∙ ap (λ (x : ℕ). has x t) e ∙ has-none t
-
-      -- what follows a refusal is of no account
-      refused-14 : (v w : Verdict) → eqb idles 0 ≡ false → unlessEmpty 14 idles v ≡ unlessEmpty 14 idles w
-      unfolding unlessEmpty
-      refused-14 v w q = rw q
+          (unless-set 16 _ _ (without-small width _ report (lt-of-le-of-lt (and-le-l _ _) (tasks-small _ _ _)))
+          (overdue-set s a few report))
 
       -- 13 to 16, by the sets that the tick computes
       pub verdict-by : {m : Marks} {done : Bool} → m ≡ marksIn s → done ≡ all (s .plan .tasks) (has (s .finished))
@@ -85,56 +78,53 @@ module _ (s : State) (report : ℕ) where
       verdict-by e f =
           rw (e, f, ← over-notes s)
           (ap (cond (over (s .plan) (notesOf s)) (refused 13 0))
-          (by-test (eqb idles 0) (λ q. ap (unlessEmpty 14 idles) (sym (after-14 (eqb-true idles 0 q)))) (refused-14 _ _)
+          (by-test (eqb idles 0) (λ q. ap (unlessEmpty 14 idles) (sym (after-14 (eqb-true idles 0 q)))) (λ q. rw q)
           ∙ sym (unless-set 14 _ _ (without-small width report _ small) (idle-set s report)))
           ∙ sym sound-verdict)
 
 -- ---- what a tick is judged to be
 
-pub judged-unsound : (s : State) (report : ℕ) → isSound s ≡ false → {j : Judged} → (j .number ≡ 12) × (j .place ≡ 0) → Judges s report j
+pub judged-unsound : (s : State) (report : ℕ) → isSound s ≡ false → {j : Judged} → (j .number ≡ 12) × (j .place ≡ 0)
+    → Judges s report j
 judged-unsound s report e f =
     record {
       verdict = rw (f .0, f .1) (sym (says-12 s report e));
-      begun = λ q. absurd (omega (arith, f .0));
+      started = λ q. absurd (omega (arith, f .0));
       users = λ q. absurd (omega (arith, f .0));
     }
 
 pub judged-sound : (s : State) (report : ℕ) → report < 2 ^ width → isSound s ≡ true
-    → {v : Verdict} {m : Marks} {done : Bool} {u : List ℕ} → m ≡ marksIn s → done ≡ all (s .plan .tasks) (has (s .finished)) → u ≡ usersOf s
-    → v ≡ verdictBy m done (s .finished) report → Judges s report (record { number = v .number; place = v .place; begun = m .begun; users = u })
+    → {v : Verdict} {m : Marks} {done : Bool} {u : List ℕ} → m ≡ marksIn s → done ≡ all (s .plan .tasks) (has (s .finished))
+    → u ≡ usersOf s → v ≡ verdictBy m done (s .finished) report
+    → Judges s report (record { number = v .number; place = v .place; started = m .started; users = u })
 judged-sound s report small sound e f g k =
-    record {
-      verdict = k ∙ verdict-by s report sound small e f;
-      begun = λ q. ap (λ (m : Marks). m .begun) e;
-      users = λ q. g;
-    }
+    record { verdict = k ∙ verdict-by s report sound small e f; started = λ q. ap (λ (m : Marks). m .started) e; users = λ q. g }
 
 -- ---- an accepted tick
 
 module _ (s : State) (report : ℕ) (ok : tickVerdict s report .number ≡ 0) where
   pub accepted-sound : isSound s ≡ true
   accepted-sound =
-      by-test (isSound s) (λ e. e) (λ e. let z : _≡_ {A = ℕ} 12 0 = sym (ap (λ (v : Verdict). v .number) (says-12 s report e)) ∙ ok in
-      absurd (omega arith))
-
-  accepted-refusal : refusal (s .plan) (s .constraint) (notesOf s) report .number ≡ 0
-  accepted-refusal = sym (ap (λ (v : Verdict). v .number) (sound-verdict s report accepted-sound)) ∙ ok
+      by-test (isSound s) (λ e. e) (λ e. let z : _≡_ {A = ℕ} 12 0 = rw (says-12 s report e) at ok in absurd (omega arith))
 
   pub accepted-idle : (t : ℕ) → t < width → idle (notesOf s) report t ≡ false
-  accepted-idle t l = report-timely (s .plan) (s .constraint) (notesOf s) report accepted-refusal t l .0
+  accepted-idle t l =
+      report-timely (s .plan) (s .constraint) (notesOf s) report (rw (sound-verdict s report accepted-sound) at ok) t l .0
 
   -- the walk of the next instant, at which the reported tasks have their finishes, is one instant of the running rules
   pub accepted-moved : Shaped s → report < 2 ^ width → {finishes : List ℕ}
-      → finishes ≡ tabulate mostTasks (stampAt (s .finishes) report (s .instant + 1)) → walkedOn (nextState s report finishes) ≡ ticked s report
+      → finishes ≡ tabulate mostTasks (stampAt (s .finishes) report (s .instant + 1))
+      → walkedOn (nextState s report finishes) ≡ ticked s report
   unfolding ticked step newlyStarted
   accepted-moved h small e =
       ap (λ (l : List ℕ). walkedOn (nextState s report l)) e
       ∙ ap (λ (m : Notes). moved (s .plan) (s .constraint) m (dispatch (s .plan) (s .constraint) (entries (s .constraint)) m))
-      (reported-notes s h accepted-sound report small accepted-idle)
+      (reported-notes s (sound-tidy s h accepted-sound) report small accepted-idle)
       ∙ rw (eq-eqb (tickVerdict s report .number) 0 ok) refl
 
 -- ---- the tick, from the verdict
 
-pub tick-stays : (s : State) (report : ℕ) {v : Verdict} → v ≡ tickVerdict s report → (v .number ≡ 0 → ⊥) → stayed v s ≡ ticked s report
+pub tick-stays : (s : State) (report : ℕ) {v : Verdict} → v ≡ tickVerdict s report → (v .number ≡ 0 → ⊥)
+    → stayed v s ≡ ticked s report
 unfolding ticked
 tick-stays s report e f = rw (← e, ne-eqb _ 0 f) refl

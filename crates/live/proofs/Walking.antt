@@ -24,26 +24,22 @@ module _ (units predecessors order chosen users : List ℕ) (instant finished : 
 
     -- at the next position, from what the loop asks: the predecessors s, the answer b
     module _ (low : w .begun < len) {s : ℕ} {b : Bool} (e : s ≡ predecessorsOf predecessors (entryAt order (w .begun)))
-        (f : b ≡ mayGo s finished (getD users (entryAt chosen (w .begun)) 0) (w .running) (getD units (entryAt chosen (w .begun)) 0)) where
+        (f : b ≡ mayGo s finished (getD users (entryAt chosen (w .begun)) 0) (w .running)
+        (getD units (entryAt chosen (w .begun)) 0)) where
       one-more : len - w .begun ≡ suc (len - (w .begun + 1))
       one-more = omega arith
 
-      answer : mayGo (predecessorsOf predecessors (entryAt order (w .begun))) finished (getD users (entryAt chosen (w .begun)) 0) (w .running)
-          (getD units (entryAt chosen (w .begun)) 0) ≡ b
+      answer : mayGo (predecessorsOf predecessors (entryAt order (w .begun))) finished
+          (getD users (entryAt chosen (w .begun)) 0) (w .running) (getD units (entryAt chosen (w .begun)) 0) ≡ b
       answer = rw (← e) (sym f)
 
       pub walk-stops : not b ≡ true → w ≡ left (len - w .begun) w
       unfolding walkFrom
       walk-stops g = rw (one-more, answer, not-true b g) refl
 
-      pub walk-goes : not b ≡ false → {r g : ℕ} → r ≡ insert (w .running) (entryAt order (w .begun))
-          → g ≡ insert (w .fresh) (entryAt order (w .begun))
-          → left (len - (w .begun + 1)) (record {
-            begun = w .begun + 1;
-            running = r;
-            fresh = g;
-            starts = set (w .starts) (entryAt order (w .begun)) instant;
-          })
+      pub walk-goes : not b ≡ false → {r : ℕ} → r ≡ insert (w .running) (entryAt order (w .begun))
+          → left (len - (w .begun + 1))
+          (record { begun = w .begun + 1; running = r; starts = set (w .starts) (entryAt order (w .begun)) instant })
           ≡ left (len - w .begun) w
       unfolding walkFrom
-      walk-goes h q k = rw (q, k, one-more, answer, not-false b h) refl
+      walk-goes h q = rw (q, one-more, answer, not-false b h) refl

@@ -42,7 +42,8 @@ pub record Faithful (p : Plan) (c : Constraint) (reports : List ℕ) : Type 0 wh
       (stage p (worst p c) (timed p c (worst p c) (acceptedCount (saidAfter (started p c .state) reports))) t) ≡ true
   -- "No list has more accepted ticks than the bound, and one with that many has ended the run"
   pub few : acceptedCount (saidAfter (started p c .state) reports) ≤ bound p c
-  pub last : acceptedCount (saidAfter (started p c .state) reports) ≡ bound p c → over p (notesOf (stateAfter (started p c .state) reports)) ≡ true
+  pub last : acceptedCount (saidAfter (started p c .state) reports) ≡ bound p c
+      → over p (notesOf (stateAfter (started p c .state) reports)) ≡ true
   -- "The bound is at most the sum of the worst times"
   pub bounded : bound p c ≤ sum (p .tasks) (worst p c)
 

@@ -31,8 +31,7 @@ replayed p c reports room =
 
 -- a buffer afterwards: one part of each tick's answer
 abbrev pub written : (Answer → ℕ) → Plan → Constraint → List ℕ → ℕ → List ℕ → List ℕ
-written part p c reports room =
-    filled (replayVerdict p c reports room) (map part (saidAfter (started p c .state) reports))
+written part p c reports room = filled (replayVerdict p c reports room) (map part (saidAfter (started p c .state) reports))
 
 -- the shortest of three buffers decides
 abbrev pub roomIn : List ℕ → List ℕ → List ℕ → ℕ

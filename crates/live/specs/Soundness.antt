@@ -1,4 +1,4 @@
--- When a run state is sound: the clauses of 12, one definition each (document 01, "When an operation says no", Tick). Assumes nothing.
+-- When a run state is sound: the clauses of 12, one definition each (document 01, Tick). Assumes nothing.
 use mathlib.Core.Bool.{Bool, _&&_, _||_}
 use Prim.Native.Nat.{ℕ, _+_, _*_}
 use lib.Dec.{eqb, leb, ltb}
@@ -62,5 +62,4 @@ unfoldable pub taskSound : State → ℕ → Bool
 taskSound s t = finishedStarted s t && (startCame s t && (finishCame s t && (unusedZero s t && timeLeft s t)))
 
 unfoldable pub isSound : State → Bool
-isSound s =
-    checked s && (startedFits s && (all width (taskSound s) && (all mostTypes (unitsEnough s) && instantLow s)))
+isSound s = checked s && (startedFits s && (all width (taskSound s) && (all mostTypes (unitsEnough s) && instantLow s)))

@@ -1,7 +1,7 @@
 -- What inner functions of the live run compute. No promise of a public function cites it. Assumes nothing.
 use mathlib.Core.Path.{_≡_}
 use mathlib.Core.Bool.{Bool, true, false, cond, _&&_, _||_, not}
-use mathlib.Core.List.{List}
+use mathlib.Core.List.{List, map}
 use Prim.Native.Nat.{ℕ, zero, suc, _+_, _-_, _^_, _≤_, _<_}
 use lib.Bits.{bitAnd}
 use lib.Dec.{eqb, leb, ltb}
@@ -13,7 +13,9 @@ use Rattle.plan.specs.declared.Constraint.{Constraint}
 use Rattle.plan.specs.Rules.{mostTypes, mostTasks, timeOf, predecessorsOf}
 use Rattle.plan.specs.declared.Verdict.{Verdict}
 use Rattle.plan.specs.Refusals.{entryAt, refused, accepted, verdict}
+use Rattle.plan.specs.Buffers.{atStart}
 use Rattle.runs.specs.Running.{entries, dispatch}
+use Rattle.runs.specs.Journal.{Answer}
 use Rattle.live.specs.declared.State.{State}
 use Rattle.live.specs.declared.Ticked.{Ticked}
 use Rattle.live.specs.declared.sets.Marks.{Marks}
@@ -22,26 +24,27 @@ use Rattle.live.specs.declared.walk.Walked.{Walked}
 use Rattle.live.specs.States.{isStarted, notesOf}
 use Rattle.live.specs.Soundness.{lastInstant}
 use Rattle.live.specs.Ticks.{moved, tickVerdict}
+use Rattle.live.specs.Lists.{stateAfter, saidAfter}
 
 -- the tasks at the first n positions of the order that pass q
 unfoldable pub tasksAt : List ℕ → ℕ → (ℕ → Bool) → ℕ
 tasksAt order n q = setOf width (λ t. any n (λ j. q j && eqb (entryAt order j) t))
 
 -- the tasks at the first n positions
-unfoldable pub firstTasks : List ℕ → ℕ → ℕ
-firstTasks order n = setOf width (λ t. any n (λ j. eqb (entryAt order j) t))
+abbrev pub firstTasks : List ℕ → ℕ → ℕ
+firstTasks order n = tasksAt order n (λ j. true)
 
 -- those whose chosen type is k
-unfoldable pub typeUsers : List ℕ → List ℕ → ℕ → ℕ → ℕ
+abbrev pub typeUsers : List ℕ → List ℕ → ℕ → ℕ → ℕ
 typeUsers order chosen n k = tasksAt order n (λ j. eqb (entryAt chosen j) k)
 
 -- those whose start and time, best or worst, come to the instant i at the latest
-unfoldable pub reached : List ℕ → List ℕ → List ℕ → List ℕ → ℕ → ℕ → ℕ
+abbrev pub reached : List ℕ → List ℕ → List ℕ → List ℕ → ℕ → ℕ → ℕ
 reached times starts order chosen n i =
     tasksAt order n (λ j. leb (getD starts (entryAt order j) 0 + timeOf times (entryAt order j) (entryAt chosen j)) i)
 
 -- the start and the finish of a task that has started or not, finished or not, at an instant: the clauses of 12 about them
-unfoldable pub timesFit : Bool → Bool → ℕ → ℕ → ℕ → Bool
+abbrev pub timesFit : Bool → Bool → ℕ → ℕ → ℕ → Bool
 timesFit begun done start finish instant =
     implies done begun
     && (implies begun (leb start instant)
@@ -50,25 +53,18 @@ timesFit begun done start finish instant =
 
 -- the same of task t in the arrays and sets of a state
 unfoldable pub allTimesFit : List ℕ → List ℕ → ℕ → ℕ → ℕ → ℕ → Bool
-allTimesFit starts finishes begun finished instant t =
-    timesFit (has begun t) (has finished t) (getD starts t 0) (getD finishes t 0) instant
+allTimesFit starts finishes started finished instant t =
+    timesFit (has started t) (has finished t) (getD starts t 0) (getD finishes t 0) instant
 
 -- no more of the running tasks use type k than it has units
 unfoldable pub enoughFor : List ℕ → List ℕ → ℕ → ℕ → Bool
 enoughFor units users running k = leb (size (bitAnd (getD users k 0) running)) (getD units k 0)
 
--- what a pass over the positions relies on
-pub record Positions (order chosen : List ℕ) (len n : ℕ) : Type 0 where
-  pub long : len ≤ mostTasks
-  pub some : n ≤ len
-  pub tasks : (j : ℕ) → j < len → entryAt order j < mostTasks
-  pub types : (j : ℕ) → j < len → entryAt chosen j < mostTypes
-
 -- what one pass over the positions finds, of which the first n have started
 abbrev pub marksOf : List ℕ → List ℕ → List ℕ → List ℕ → List ℕ → ℕ → ℕ → ℕ → Marks
 marksOf bcet wcet starts order chosen len n instant =
     record {
-      begun = firstTasks order n;
+      started = firstTasks order n;
       spent = reached wcet starts order chosen n instant;
       ripe = reached bcet starts order chosen n (instant + 1);
       due = reached wcet starts order chosen n (instant + 1);
@@ -78,18 +74,18 @@ marksOf bcet wcet starts order chosen len n instant =
 -- the clauses of 12 after the first two, by sets
 unfoldable pub soundBy : List ℕ → List ℕ → List ℕ → List ℕ → Marks → Bool → ℕ → ℕ → Bool
 soundBy units users starts finishes m over finished instant =
-    let running = without (m .begun) finished in
-    (all width (allTimesFit starts finishes (m .begun) finished instant) && eqb (bitAnd (m .spent) running) 0)
+    let running = without (m .started) finished in
+    (all width (allTimesFit starts finishes (m .started) finished instant) && eqb (bitAnd (m .spent) running) 0)
     && (all mostTypes (enoughFor units users running) && (leb instant lastInstant && (over || ltb instant lastInstant)))
 
 -- refused at the lowest member of a faulty set, otherwise what follows
-unfoldable pub unlessEmpty : ℕ → ℕ → Verdict → Verdict
+abbrev pub unlessEmpty : ℕ → ℕ → Verdict → Verdict
 unlessEmpty number faulty rest = cond (not (eqb faulty 0)) (refused number (lowest faulty)) rest
 
 -- 13 to 16, by sets
 unfoldable pub verdictBy : Marks → Bool → ℕ → ℕ → Verdict
 verdictBy m over finished report =
-    let running = without (m .begun) finished in
+    let running = without (m .started) finished in
     cond over (refused 13 0)
     (unlessEmpty 14 (without report running)
     (unlessEmpty 15 (without report (m .ripe))
@@ -98,20 +94,19 @@ verdictBy m over finished report =
 
 -- a state that is handed over in parts
 abbrev pub stateFrom : Plan → Constraint → ℕ → ℕ → ℕ → List ℕ → List ℕ → State
-stateFrom p c instant started finished starts finishes =
-    record { plan = p; constraint = c; instant = instant; started = started; finished = finished; starts = starts; finishes = finishes }
+stateFrom p c i n f b e = record { plan = p; constraint = c; instant = i; started = n; finished = f; starts = b; finishes = e }
 
 -- ---- the walk, on sets and arrays
 
 -- the predecessors are finished, and fewer running tasks use the type than it has units
-unfoldable pub mayGo : ℕ → ℕ → ℕ → ℕ → ℕ → Bool
+abbrev pub mayGo : ℕ → ℕ → ℕ → ℕ → ℕ → Bool
 mayGo predecessors finished users running units = subset predecessors finished && ltb (size (bitAnd users running)) units
 
 -- the task at the next position starts at the instant
 abbrev pub gone : List ℕ → ℕ → Walked → Walked
 gone order instant w =
     let t = entryAt order (w .begun) in
-    record { begun = w .begun + 1; running = insert (w .running) t; fresh = insert (w .fresh) t; starts = set (w .starts) t instant }
+    record { begun = w .begun + 1; running = insert (w .running) t; starts = set (w .starts) t instant }
 
 -- the walk with so many positions left
 unfoldable pub walkFrom : List ℕ → List ℕ → List ℕ → List ℕ → List ℕ → ℕ → ℕ → ℕ → Walked → Walked
@@ -138,7 +133,7 @@ walkedOn s =
 -- what a tick is judged to be: its verdict and, where it is accepted, what the walk needs
 pub record Judges (s : State) (report : ℕ) (j : Judged) : Type 0 where
   pub verdict : refused (j .number) (j .place) ≡ tickVerdict s report
-  pub begun : j .number ≡ 0 → j .begun ≡ firstTasks (s .constraint .order) (s .started)
+  pub started : j .number ≡ 0 → j .started ≡ firstTasks (s .constraint .order) (s .started)
   pub users : j .number ≡ 0 → j .users ≡ usersOf s
 
 -- ---- the reported tasks
@@ -163,3 +158,11 @@ pub record Walkable (s : State) (users : List ℕ) (running : ℕ) : Type 0 wher
   pub tidy : Tidy s
   pub users-are : users ≡ usersOf s
   pub running-are : running ≡ runningOf s
+
+-- ---- a list of reports
+
+-- the state after a tick for each, and the buffers with the parts of their answers at the start
+abbrev pub afterEach : State → List ℕ → List ℕ → List ℕ → List ℕ → State × (List ℕ × (List ℕ × List ℕ))
+afterEach s reports numbers places sets =
+    let part : (Answer → ℕ) → List ℕ → List ℕ = λ f. atStart (map f (saidAfter s reports)) in
+    (stateAfter s reports, (part (λ a. a .number) numbers, (part (λ a. a .place) places, part (λ a. a .started) sets)))

@@ -95,7 +95,7 @@ impl State {
         let n = self.started;
         let instant = self.instant + 1;
         let finished = self.finished | report;
-        let running = task_set::difference(j.begun, finished);
+        let running = task_set::difference(j.started, finished);
         let finishes = step::stamped(before, report, instant);
         let users = j.users;
         walk::walk_on(p, c, users, running, instant, n, finished, starts, finishes)

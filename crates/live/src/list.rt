@@ -1,12 +1,11 @@
 // Start, and then a tick for each report of a list (demand 3; document 01, "The bench book").
 ghost use mathlib.Core.Path.{_≡_};
-ghost use mathlib.Core.List.{map};
 ghost use Prim.Native.Nat.{_≤_, min};
 ghost use lib.ListN.{length};
 ghost use Rattle.plan.specs.Refusals.{refused as refusedBy};
-ghost use Rattle.plan.specs.Buffers.{atStart, fitted as fittedBy};
-ghost use Rattle.live.specs.Lists.{saidAfter, stateAfter};
-ghost use Rattle.live.specs.Replays.{Replays};
+ghost use Rattle.plan.specs.Buffers.{fitted as fittedBy};
+ghost use Rattle.live.specs.Replays.{Replays, roomIn};
+ghost use Rattle.live.specs.Steps.{afterEach};
 use crate::State;
 use crate::no_state;
 use crate::start;
@@ -34,11 +33,9 @@ fn tick_each(
     places: &mut [usize],
     sets: &mut [u64],
 ) -> State
-    requires { ⌜ length (now reports) ≤ min (length (now numbers)) (min (length (now places)) (length (now sets))) ⌝ }
-    ensures { λ r. ⌜ (r ≡ stateAfter first (now (reports .entry)))
-        × ((now (numbers .exit) ≡ atStart (map (λ a. a .number) (saidAfter first (now (reports .entry)))) (now (numbers .entry)))
-        × ((now (places .exit) ≡ atStart (map (λ a. a .place) (saidAfter first (now (reports .entry)))) (now (places .entry)))
-        × (now (sets .exit) ≡ atStart (map (λ a. a .started) (saidAfter first (now (reports .entry)))) (now (sets .entry))))) ⌝ }
+    requires { ⌜ length (now reports) ≤ roomIn (now numbers) (now places) (now sets) ⌝ }
+    ensures { λ r. ⌜ (r, (now (numbers .exit), (now (places .exit), now (sets .exit))))
+        ≡ afterEach first (now (reports .entry)) (now (numbers .entry)) (now (places .entry)) (now (sets .entry)) ⌝ }
 {
     let mut state = first;
     let mut i = 0;

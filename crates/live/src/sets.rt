@@ -1,9 +1,10 @@
 // Sets of tasks that stand at the first positions of an order.
 ghost use mathlib.Core.Path.{_≡_};
 ghost use mathlib.Core.Bool.{cond};
-ghost use Prim.Native.Nat.{_<_, _^_};
+ghost use Prim.Native.Nat.{_<_, _≤_, _^_};
 ghost use Rattle.task_set.specs.Sets.{insert};
-ghost use Rattle.live.specs.Steps.{Positions, marksOf};
+ghost use Rattle.plan.specs.Steps.{Positions};
+ghost use Rattle.live.specs.Steps.{marksOf};
 use plan::MOST_PAIRS;
 use plan::MOST_TASKS;
 use plan::MOST_TYPES;
@@ -27,7 +28,7 @@ fn inserted_if(hit: bool, s: u64, t: usize) -> u64
 // The started tasks; those whose worst time has come; those whose best and whose worst time comes at the next instant; and
 // the tasks of the order by their chosen type.
 pub struct Marks {
-    pub begun: u64,
+    pub started: u64,
     pub spent: u64,
     pub ripe: u64,
     pub due: u64,
@@ -45,11 +46,12 @@ pub fn mark_positions<'a>(
     n: usize,
     instant: u32,
 ) -> Marks
-    requires { ⌜ Positions (now order) (now chosen) len n ⌝ }
-    ensures { λ r. ⌜ r ≡ marksOf (now (bcet .entry)) (now (wcet .entry)) (now (starts .entry)) (now (order .entry)) (now (chosen .entry)) len n instant ⌝ }
+    requires { ⌜ Positions (now order) (now chosen) len × (n ≤ len) ⌝ }
+    ensures { λ r. ⌜ r ≡ marksOf (now (bcet .entry)) (now (wcet .entry)) (now (starts .entry))
+        (now (order .entry)) (now (chosen .entry)) len n instant ⌝ }
 {
     let at = wide(instant);
-    let mut begun: u64 = 0;
+    let mut started: u64 = 0;
     let mut spent: u64 = 0;
     let mut ripe: u64 = 0;
     let mut due: u64 = 0;
@@ -64,7 +66,7 @@ pub fn mark_positions<'a>(
             let start = wide(starts[t]);
             let best = start + wide(plan::time_of(bcet, t, k));
             let worst = start + wide(plan::time_of(wcet, t, k));
-            begun = task_set::inserted(begun, t);
+            started = task_set::inserted(started, t);
             spent = inserted_if(worst <= at, spent, t);
             ripe = inserted_if(best <= at + 1, ripe, t);
             due = inserted_if(worst <= at + 1, due, t);
@@ -72,7 +74,7 @@ pub fn mark_positions<'a>(
         i += 1;
     }
     Marks {
-        begun,
+        started,
         spent,
         ripe,
         due,

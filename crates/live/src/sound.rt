@@ -24,16 +24,16 @@ fn times_fit(begun: bool, done: bool, start: u32, finish: u32, instant: u32) -> 
 fn all_times_fit<'a>(
     starts: &'a [u32; MOST_TASKS],
     finishes: &'a [u32; MOST_TASKS],
-    begun: u64,
+    started: u64,
     finished: u64,
     instant: u32,
 ) -> bool
-    ensures { λ r. ⌜ r ≡ all width (allTimesFit (now (starts .entry)) (now (finishes .entry)) begun finished instant) ⌝ }
+    ensures { λ r. ⌜ r ≡ all width (allTimesFit (now (starts .entry)) (now (finishes .entry)) started finished instant) ⌝ }
 {
     let mut ok = true;
     let mut t = 0;
     while t < MOST_TASKS {
-        let b = task_set::contains(begun, t);
+        let b = task_set::contains(started, t);
         let d = task_set::contains(finished, t);
         ok = ok & times_fit(b, d, starts[t], finishes[t], instant);
         t += 1;
@@ -78,11 +78,12 @@ pub fn is_sound<'a>(
     finished: u64,
     instant: u32,
 ) -> bool
-    ensures { λ r. ⌜ r ≡ soundBy (now (units .entry)) (now (users .entry)) (now (starts .entry)) (now (finishes .entry)) m over finished instant ⌝ }
+    ensures { λ r. ⌜ r ≡ soundBy (now (units .entry)) (now (users .entry)) (now (starts .entry)) (now (finishes .entry))
+        m over finished instant ⌝ }
 {
-    let running = task_set::difference(m.begun, finished);
+    let running = task_set::difference(m.started, finished);
     let early = (instant <= LAST_INSTANT) & (over | (instant < LAST_INSTANT));
-    all_times_fit(starts, finishes, m.begun, finished, instant)
+    all_times_fit(starts, finishes, m.started, finished, instant)
         & ((m.spent & running) == 0)
         & (enough_units(units, users, running) & early)
 }

@@ -15,7 +15,7 @@ use plan::Verdict;
 pub struct Judged {
     pub number: u32,
     pub place: usize,
-    pub begun: u64,
+    pub started: u64,
     pub users: [u64; MOST_TYPES],
 }
 
@@ -47,7 +47,7 @@ fn unless_empty(number: u32, faulty: u64, rest: Verdict) -> Verdict
 fn report_verdict(m: Marks, over: bool, finished: u64, report: u64) -> Verdict
     ensures { λ r. ⌜ r ≡ verdictBy m over finished report ⌝ }
 {
-    let running = task_set::difference(m.begun, finished);
+    let running = task_set::difference(m.started, finished);
     let idle = task_set::difference(report, running);
     let early = task_set::difference(report, m.ripe);
     let overdue = task_set::difference(m.due & running, report);
@@ -64,7 +64,7 @@ fn unsound() -> Judged
     Judged {
         number: 12,
         place: 0,
-        begun: 0,
+        started: 0,
         users: [0; MOST_TYPES],
     }
 }
@@ -113,7 +113,7 @@ pub fn judge(s: State, report: u64) -> Judged
     Judged {
         number: w.number,
         place: w.place,
-        begun: m.begun,
+        started: m.started,
         users,
     }
 }

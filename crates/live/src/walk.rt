@@ -1,8 +1,7 @@
 // The walk of an instant, on the sets and arrays of a run state.
 ghost use mathlib.Core.Path.{_≡_};
-ghost use Prim.Native.Nat.{ℕ, _-_, _<_, _≤_};
-ghost use Rattle.plan.specs.Rules.{mostTasks, mostTypes};
-ghost use Rattle.plan.specs.Refusals.{entryAt};
+ghost use Prim.Native.Nat.{_-_};
+ghost use Rattle.plan.specs.Steps.{Positions};
 ghost use Rattle.live.specs.Steps.{Walkable, mayGo, stateFrom, walkFrom, walkedOn};
 use crate::State;
 use crate::Ticked;
@@ -11,11 +10,10 @@ use plan::MOST_TASKS;
 use plan::MOST_TYPES;
 use plan::Plan;
 
-// How far a walk has come: how many tasks of the order have started, those running, those started in it, and the starts.
+// How far a walk has come: how many tasks of the order have started, those running, and the starts.
 pub struct Walked {
     pub begun: usize,
     pub running: u64,
-    pub fresh: u64,
     pub starts: [u32; MOST_TASKS],
 }
 
@@ -38,13 +36,12 @@ pub fn walk<'a>(
     finished: u64,
     w: Walked,
 ) -> Walked
-    requires { ⌜ (len ≤ mostTasks) × ((j : ℕ) → j < len → (entryAt (now order) j < mostTasks) × (entryAt (now chosen) j < mostTypes)) ⌝ }
+    requires { ⌜ Positions (now order) (now chosen) len ⌝ }
     ensures { λ r. ⌜ r ≡ walkFrom (now (units .entry)) (now (predecessors .entry)) (now (order .entry)) (now (chosen .entry))
         (now (users .entry)) instant finished (len - w .begun) w ⌝ }
 {
     let mut n = w.begun;
     let mut running = w.running;
-    let mut fresh = w.fresh;
     let mut starts = w.starts;
     while n < len {
         let t = order[n];
@@ -54,19 +51,16 @@ pub fn walk<'a>(
             return Walked {
                 begun: n,
                 running,
-                fresh,
                 starts,
             };
         }
         running = task_set::inserted(running, t);
-        fresh = task_set::inserted(fresh, t);
         starts[t] = instant;
         n += 1;
     }
     Walked {
         begun: n,
         running,
-        fresh,
         starts,
     }
 }
@@ -95,7 +89,6 @@ pub fn walk_on(
     let begin = Walked {
         begun: n,
         running,
-        fresh: 0,
         starts,
     };
     let w = walk(
@@ -110,6 +103,7 @@ pub fn walk_on(
         begin,
     );
     let after = w.starts;
+    let fresh = task_set::difference(w.running, running);
     let state = State {
         plan: p,
         constraint: c,
@@ -122,7 +116,7 @@ pub fn walk_on(
     Ticked {
         number: 0,
         place: 0,
-        started: w.fresh,
+        started: fresh,
         state,
     }
 }

@@ -8,7 +8,7 @@ use Rattle.task_set.specs.Sets.{width}
 use Rattle.plan.specs.declared.Verdict.{Verdict}
 use Rattle.live.specs.Soundness.{isSound}
 use Rattle.live.specs.Ticks.{tickVerdict}
-use Rattle.live.proofs.ReportedStates.{Shaped, sound-instant, reported-walkable}
+use Rattle.live.proofs.ReportedStates.{Shaped, sound-instant, sound-tidy, reported-walkable}
 use Rattle.live.proofs.TickAnswers.{accepted-sound, accepted-idle, accepted-moved, tick-stays}
 use Rattle.live.proofs.State.tick.Statement.{statement}
 use Rattle.live.proofs.State.tick.Tie as tie
@@ -32,8 +32,8 @@ sound c = accepted-sound _ _ (taken c)
 walk-on-requires : tie.Need-walk-on-requires
 walk-on-requires c κs =
     let e = c .before .before .before .before .before .before .before .before .before in
-    reported-walkable _ (shaped (begin e)) (sound e) _ (word (begin e)) (accepted-idle _ _ (taken e))
-    (e .before .before .judge .ensures .begun (e .if1 .left)) (e .before .before .judge .ensures .users (e .if1 .left))
+    reported-walkable _ (sound-tidy _ (shaped (begin e)) (sound e)) _ (word (begin e)) (accepted-idle _ _ (taken e))
+    (e .before .before .judge .ensures .started (e .if1 .left)) (e .before .before .judge .ensures .users (e .if1 .left))
     (c .before .before .difference .ensures) (c .before .stamped .ensures)
 
 returns-2 : tie.Need-returns-2

@@ -19,12 +19,12 @@ loop-again c =
     let l = c .before .before .before in
     answered-more _ _ _ _ _ _ _ _ _ _ (l .loop-test .taken) (c .before .tick .ensures) (l .before .loop .inv)
 
-returns : tie.Need-returns Inv-loop μ-loop
-returns c = answered-all _ _ _ _ _ (c .before .before .before .before .before .before .pre) (c .loop-test .left) (c .before .loop .inv)
-
 pub tick-each-spec : {M : Type 1} → statement M
 tick-each-spec =
-    tie.close (tie.spec Inv-loop μ-loop (λ c. record { within = zero-le; numbers-long = refl; places-long = refl; sets-long = refl; makes = refl }) (λ c. search needs) (λ c. search needs)
-    (λ c κs. search needs) (λ c. search needs) (λ c. search needs) (λ c. search needs) (λ c. search needs)
-    (λ c. search needs) (λ c. search needs) (λ c. search needs) (λ c. search needs) loop-again (λ c. search needs)
-    (λ c. search needs) (λ c. search needs) returns)
+    tie.close (tie.spec Inv-loop μ-loop
+    (λ c. record { within = zero-le; numbers-long = refl; places-long = refl; sets-long = refl; makes = refl })
+    (λ c. search needs) (λ c. search needs) (λ c κs. search needs) (λ c. search needs) (λ c. search needs)
+    (λ c. search needs) (λ c. search needs) (λ c. search needs) (λ c. search needs) (λ c. search needs)
+    (λ c. search needs) loop-again (λ c. search needs) (λ c. search needs) (λ c. search needs)
+    (λ c. answered-all _ _ _ _ _ (c .before .before .before .before .before .before .pre) (c .loop-test .left)
+    (c .before .loop .inv)))

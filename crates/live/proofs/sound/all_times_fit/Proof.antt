@@ -28,7 +28,8 @@ loop-again c =
     let l = c .before .before .before .before .before .before in
     upto-more (c .before .before .before .before .before .loop-test .taken)
     (ap₂ _&&_ (l .loop .inv .is)
-    (rw (c .before .before .before .before .contains .ensures, c .before .before .before .contains2 .ensures) at (c .times-fit .ensures))
+    (rw (c .before .before .before .before .contains .ensures, c .before .before .before .contains2 .ensures) at
+    (c .times-fit .ensures))
     ∙ sym (all-next _ _))
 
 pub all-times-fit-spec : {M : Type 1} → statement M

@@ -7,7 +7,9 @@ use Rattle.live.proofs.sound.is_sound.Tie as tie
 
 returns : tie.Need-returns
 unfolding soundBy
-returns c = rw (c .enough-units .ensures, c .before .before .all-times-fit .ensures, c .before .before .before .difference .ensures) refl
+returns c =
+    let d = c .before .before .before in
+    rw (c .enough-units .ensures, c .before .before .all-times-fit .ensures, d .difference .ensures) refl
 
 pub is-sound-spec : {M : Type 1} → statement M
 is-sound-spec =

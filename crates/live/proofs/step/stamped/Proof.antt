@@ -27,7 +27,8 @@ loop-again : tie.Need-loop-again Inv-loop μ-loop
 loop-again c =
     let l = c .before .before .before .loop .inv in (
       search needs,
-      rw (c .removed .ensures, c .before .lowest-member .ensures) (stamped-more _ (l .0) (c .before .before .loop-test .taken) _ (l .1)),
+      rw (c .removed .ensures, c .before .lowest-member .ensures)
+          (stamped-more _ (l .0) (c .before .before .loop-test .taken) _ (l .1)),
     )
 
 pub stamped-spec : {M : Type 1} → statement M

@@ -1,5 +1,5 @@
 -- `live::verdicts::report_verdict` meets its contract. Assumes nothing.
-use mathlib.Core.Path.{_∙_}
+use mathlib.Core.Path.{refl, _∙_}
 use borrow.Author.Needs.{needs}
 use Rattle.live.specs.Steps.{verdictBy}
 use Rattle.live.proofs.verdicts.report_verdict.Statement.{statement}
@@ -11,16 +11,9 @@ returns c =
     let e = c .before .before .before in
     let d = e .before .before in
     c .unless .ensures
-    ∙ rw (
-      c .before .unless-empty3 .ensures,
-      c .before .before .unless-empty2 .ensures,
-      e .unless-empty .ensures,
-      e .before .refused .ensures,
-      d .difference4 .ensures,
-      d .before .before .difference3 .ensures,
-      d .before .before .before .difference2 .ensures,
-      d .before .before .before .before .difference .ensures,
-    )
+    ∙ rw (c .before .unless-empty3 .ensures, c .before .before .unless-empty2 .ensures, e .unless-empty .ensures)
+    (rw (e .before .refused .ensures, d .difference4 .ensures, d .before .before .difference3 .ensures)
+    (rw (d .before .before .before .difference2 .ensures, d .before .before .before .before .difference .ensures) refl))
 
 pub report-verdict-spec : {M : Type 1} → statement M
 report-verdict-spec =

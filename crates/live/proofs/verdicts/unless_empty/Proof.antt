@@ -1,12 +1,9 @@
 -- `live::verdicts::unless_empty` meets its contract. Assumes nothing.
 use borrow.Author.Needs.{needs}
-use Rattle.live.specs.Steps.{unlessEmpty}
 use Rattle.live.proofs.verdicts.unless_empty.Statement.{statement}
 use Rattle.live.proofs.verdicts.unless_empty.Tie as tie
 
-returns : tie.Need-returns
-unfolding unlessEmpty
-returns c = rw (← c .before .lowest-member .ensures) (c .unless .ensures)
-
 pub unless-empty-spec : {M : Type 1} → statement M
-unless-empty-spec = tie.close (tie.spec (λ c κs. search needs) (λ c. search needs) (λ c κs. search needs) returns)
+unless-empty-spec =
+    tie.close (tie.spec (λ c κs. search needs) (λ c. search needs) (λ c κs. search needs)
+    (λ c. rw (← c .before .lowest-member .ensures) (c .unless .ensures)))
