@@ -139,7 +139,8 @@ line-untabbed [] l f = absurd (omega arith)
 line-untabbed (b ∷ []) l f = absurd (omega arith)
 line-untabbed (b ∷ a ∷ s) l f = rw (ne-eqb a tab f, split-first tab s .1) (go (eqb b tab) (a ∷ firstPart tab s) _ (omega arith))
   where
-    go : (x : Bool) (p : List ℕ) (parts : List (List ℕ)) → 0 < length p → lineOfParts (cond x ([] ∷ p ∷ parts) ((b ∷ p) ∷ parts)) ≡ NoForm
+    go : (x : Bool) (p : List ℕ) (parts : List (List ℕ)) → 0 < length p
+        → lineOfParts (cond x ([] ∷ p ∷ parts) ((b ∷ p) ∷ parts)) ≡ NoForm
     go true p parts m = refl
     go false p parts m = rw (ne-eqb (length (b ∷ p)) 1 (λ e. omega arith))
 

@@ -43,6 +43,9 @@ room r f e t k h =
     let g = new-task r t k (sym (ap (lineFault r) h) ∙ f) in
     omega (arith, e, count-short width (has (r .seen .listed)) t (g .0) (g .1))
 
--- a line adds at most one
+-- a line adds at most one, and takes none away
 pub counted-le : (line : Line) (kind n : ℕ) → counted line kind n ≤ n + 1
 counted-le line kind n = by-test (isKind line kind) (λ e. rw e (omega arith)) (λ e. rw e (omega arith))
+
+pub counted-ge : (line : Line) (kind n : ℕ) → n ≤ counted line kind n
+counted-ge line kind n = by-test (isKind line kind) (λ e. rw e (omega arith)) (λ e. rw e (omega arith))

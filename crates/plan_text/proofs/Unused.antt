@@ -19,9 +19,10 @@ use Rattle.plan_text.specs.declared.LineForm.{LineForm}
 use Rattle.plan_text.specs.declared.LineForm.the-variants.{Of, NoForm}
 use Rattle.plan_text.specs.declared.Answer.{Answer}
 use Rattle.plan_text.specs.Form.{newline, split, lineOf}
-use Rattle.plan_text.specs.Reading.{Reading, nothing, lineFault, lineDone}
+use Rattle.plan_text.specs.Reading.{Reading, nothing, number, isKind, counted, named, stored, lineFault, lineDone}
 use Rattle.plan_text.specs.Text.{mostBytes, answerOf, answerBy, refused, readLines, readText}
-use Rattle.plan_text.proofs.Faultless.{passed, times-pair}
+use Rattle.plan_text.proofs.Faultless.{Passed, passed, times-pair}
+use Rattle.plan_text.proofs.Room.{counted-ge}
 
 -- the entries from n on are zero
 abbrev pub Past : ℕ → List ℕ → Type 0
@@ -65,89 +66,90 @@ none number place =
 
 -- ---- one line more
 
-past-set : (l : List ℕ) {n m : ℕ} (i v : ℕ) → i < m → n ≤ m → Past n l → Past m (set l i v)
-past-set l i v a b h j q = getD-set-other l i j v 0 (λ e. omega arith) ∙ h j (omega arith)
+past-set : (b : Bool) (l : List ℕ) {n m : ℕ} (i v : ℕ) → (b ≡ true → i < m) → n ≤ m → Past n l → Past m (cond b (set l i v) l)
+past-set true l i v a b h j q = getD-set-other l i j v 0 (λ e. omega (arith, a refl)) ∙ h j (omega arith)
+past-set false l i v a b h j q = h j (omega arith)
 
-outside-set : (times : List ℕ) {tasks types : ℕ} (t k v : ℕ) → k < mostTypes → k < types → Outside tasks types times
-    → Outside (max tasks (t + 1)) types (set times (pairIndex t k) v)
+outside-set : (b : Bool) (times : List ℕ) {tasks types : ℕ} (t k v : ℕ)
+    → (b ≡ true → (t < tasks) × (k < types) × (k < mostTypes)) → Outside tasks types times
+    → Outside tasks types (cond b (set times (pairIndex t k) v) times)
 unfolding timeOf
-outside-set times t k v l p h u m f = by-test (ltb u mostTasks && ltb m mostTypes) inside (λ e. rw e)
+outside-set false times t k v a h u m f = h u m f
+outside-set true times t k v a h u m f = by-test (ltb u mostTasks && ltb m mostTypes) inside (λ e. rw e)
   where
     inside : ltb u mostTasks && ltb m mostTypes ≡ true → timeOf (set times (pairIndex t k) v) u m ≡ 0
     inside e =
         let n : m < mostTypes = ltb-true m mostTypes (and-right (ltb u mostTasks) (ltb m mostTypes) e) in
-        rw e (getD-set-other times (pairIndex t k) (pairIndex u m) v 0 (λ q. f (omega arith) (omega arith))
-        ∙ (rw e at (h u m (λ a b. f (omega arith) b))))
+        let l = a refl in
+        rw e (getD-set-other times (pairIndex t k) (pairIndex u m) v 0 (λ q. f (omega arith) (omega arith)) ∙ (rw e at (h u m f)))
+
+-- where a line without a fault stores, by its kind
+record Fits (r : Reading) (line : Line) : Type 0 where
+  next : isKind line 0 ≡ true → number line 0 ≡ r .plan .types
+  pair : isKind line 1 ≡ true → (number line 0 < mostTasks) × (number line 1 < mostTypes) × (number line 1 < r .plan .types)
+  to : isKind line 2 ≡ true → has (r .seen .timed) (number line 1) ≡ true
+
+never : {P : Type 0} → false ≡ true → P
+never e = absurd (clash e refl)
+
+fits : (r : Reading) (line : Line) → Passed r line → Fits r line
+fits r (Units k n) p = record { next = λ e. eqb-true k _ (not-false _ (p .known)); pair = never; to = never }
+fits r (Times t k b w) p =
+    let l = times-pair {line = Times t k b w} (p .range) {t = t} {k = k} {b = b} {w = w} refl in
+    record { next = never; pair = λ e. (l .0, l .1, leb-false (r .plan .types) k (p .known)); to = never }
+fits r (Arrow from to) p =
+    record { next = never; pair = never; to = λ e. and-right (has (r .seen .timed) from) _ (not-false _ (p .known)) }
+fits r (Choice t k) p = record { next = never; pair = never; to = never }
 
 -- what was read leaves them so, and a task with a T line is one of the tasks
 pub record Kept (r : Reading) : Type 0 where
   pub unused : Unused (answerOf r)
   pub timed : (t : ℕ) → has (r .seen .timed) t ≡ true → t < r .plan .tasks
 
-kept-more : (r : Reading) (line : Line) → lineFault r line ≡ 0 → Kept r → Kept (lineDone r line)
-unfolding lineDone
-kept-more r (Units k n) f h =
-    let p = r .plan in
-    let u = h .unused in
-    let e = eqb-true k (p .types) (not-false _ (passed r (Units k n) f .known)) in
-    record {
-      unused = record {
-        units = past-set (p .units) k n (omega arith) (omega arith) (u .units);
-        best = λ t m g. u .best t m (λ a b. g a (omega arith));
-        worst = λ t m g. u .worst t m (λ a b. g a (omega arith));
-        predecessors = u .predecessors;
-        order = u .order;
-        chosen = u .chosen;
-      };
-      timed = h .timed;
-    }
-kept-more r (Times t k b w) f h =
-    let p = r .plan in
-    let u = h .unused in
-    let q = passed r (Times t k b w) f in
-    let low = times-pair {line = Times t k b w} (q .range) {t = t} {k = k} {b = b} {w = w} refl in
-    let here = leb-false (p .types) k (q .known) in
-    record {
-      unused = record {
-        units = u .units;
-        best = outside-set (p .bcet) t k b (low .1) here (u .best);
-        worst = outside-set (p .wcet) t k w (low .1) here (u .worst);
-        predecessors = λ i l. u .predecessors i (omega arith);
-        order = u .order;
-        chosen = u .chosen;
-      };
-      timed = λ i e. ⊎-elim (λ g. omega (arith, h .timed i g)) (λ g. omega (arith, eqb-true t i g))
-          (or-cases (has (r .seen .timed) i) (eqb t i) (sym (has-insert (r .seen .timed) t i (low .0)) ∙ e));
-    }
-kept-more r (Arrow from to) f h =
-    let p = r .plan in
-    let u = h .unused in
-    let e = and-right (has (r .seen .timed) from) _ (not-false _ (passed r (Arrow from to) f .known)) in
-    record {
-      unused = record {
-        units = u .units;
-        best = u .best;
-        worst = u .worst;
-        predecessors = past-set (p .predecessors) to _ (h .timed to e) (omega arith) (u .predecessors);
-        order = u .order;
-        chosen = u .chosen;
-      };
-      timed = h .timed;
-    }
-kept-more r (Choice t k) f h =
-    let c = r .constraint in
-    let u = h .unused in
-    record {
-      unused = record {
-        units = u .units;
-        best = u .best;
-        worst = u .worst;
-        predecessors = u .predecessors;
-        order = past-set (c .order) (c .len) t (omega arith) (omega arith) (u .order);
-        chosen = past-set (c .chosen) (c .len) k (omega arith) (omega arith) (u .chosen);
-      };
-      timed = h .timed;
-    }
+module _ (r : Reading) (line : Line) (f : Fits r line) (h : Kept r) where
+  abbrev tasks : ℕ
+  tasks = cond (isKind line 1) (max (r .plan .tasks) (number line 0 + 1)) (r .plan .tasks)
+
+  more-tasks : r .plan .tasks ≤ tasks
+  more-tasks = by-test (isKind line 1) (λ e. rw e (omega arith)) (λ e. rw e (omega arith))
+
+  outside-more : (times : List ℕ) (i : ℕ) → Outside (r .plan .tasks) (r .plan .types) times
+      → Outside tasks (counted line 0 (r .plan .types))
+      (stored line 1 times (pairIndex (number line 0) (number line 1)) (number line i))
+  outside-more times i o =
+      let m = counted-ge line 0 (r .plan .types) in
+      outside-set (isKind line 1) times (number line 0) (number line 1) (number line i)
+      (λ e. (rw e (omega arith), omega (arith, f .pair e, m), f .pair e .1))
+      (λ u k g. o u k (λ a b. g (omega (arith, more-tasks)) (omega (arith, m))))
+
+  timed-more : (t : ℕ) → has (named line 1 (r .seen .timed)) t ≡ true → t < tasks
+  timed-more t =
+      by-test (isKind line 1)
+      (λ e. rw e (λ q. ⊎-elim (λ g. omega (arith, h .timed t g)) (λ g. omega (arith, eqb-true (number line 0) t g))
+      (or-cases (has (r .seen .timed) t) (eqb (number line 0) t)
+      (sym (has-insert (r .seen .timed) (number line 0) t (f .pair e .0)) ∙ q))))
+      (λ e. rw e (h .timed t))
+
+  kept-more : Kept (lineDone r line)
+  unfolding lineDone
+  kept-more =
+      let p = r .plan in
+      let c = r .constraint in
+      let u = h .unused in
+      let len = counted-ge line 3 (c .len) in
+      record {
+        unused = record {
+          units = past-set (isKind line 0) (p .units) (number line 0) (number line 1) (λ e. rw e (omega (arith, f .next e)))
+              (counted-ge line 0 (p .types)) (u .units);
+          best = outside-more (p .bcet) 2 (u .best);
+          worst = outside-more (p .wcet) 3 (u .worst);
+          predecessors = past-set (isKind line 2) (p .predecessors) (number line 1) _
+              (λ e. omega (arith, more-tasks, h .timed (number line 1) (f .to e))) more-tasks (u .predecessors);
+          order = past-set (isKind line 3) (c .order) (c .len) (number line 0) (λ e. rw e (omega arith)) len (u .order);
+          chosen = past-set (isKind line 3) (c .chosen) (c .len) (number line 1) (λ e. rw e (omega arith)) len (u .chosen);
+        };
+        timed = timed-more;
+      }
 
 -- ---- every text
 
@@ -164,7 +166,9 @@ lines-unused (line ∷ next ∷ rest) k r h = go (lineOf line) (lines-unused (ne
     go : (form : LineForm) → ((s : Reading) → Kept s → Unused (readLines (next ∷ rest) (k + 1) s))
         → Unused (answerBy form k r (readLines (next ∷ rest) (k + 1)))
     go NoForm ih = none 2 k
-    go (Of line) ih = either (eqb (lineFault r line) 0) (λ e. ih _ (kept-more r line (eqb-true _ 0 e) h)) (none _ k)
+    go (Of line) ih =
+        either (eqb (lineFault r line) 0) (λ e. ih _ (kept-more r line (fits r line (passed r line (eqb-true _ 0 e))) h))
+        (none _ k)
 
 pub text-unused : (s : List ℕ) → Unused (readText s)
 unfolding readText

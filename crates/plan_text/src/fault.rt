@@ -117,13 +117,9 @@ pub fn line_fault<'a>(
     let late = kind_of(line) < seen.kind;
     let absent = unknown(types, seen.timed, line);
     let again = repeated(wcet, predecessors, seen.listed, line);
-    unless(
-        outside,
-        3,
-        unless(
-            odd,
-            4,
-            unless(late, 5, unless(absent, 6, unless(again, 7, 0))),
-        ),
-    )
+    let fault = unless(again, 7, 0);
+    let fault = unless(absent, 6, fault);
+    let fault = unless(late, 5, fault);
+    let fault = unless(odd, 4, fault);
+    unless(outside, 3, fault)
 }
