@@ -3,6 +3,7 @@ ghost use mathlib.Core.Path.{_≡_};
 ghost use Prim.Native.Nat.{_+_, _≤_};
 ghost use lib.ListN.{drop};
 ghost use Rattle.plan_text.specs.Form.{newline};
+ghost use Rattle.plan_text.specs.Reading.{nothing};
 ghost use Rattle.plan_text.specs.Steps.{lineAt, partLength};
 ghost use Rattle.plan_text.specs.Text.{readText, refused};
 use fault::line_fault;
@@ -61,6 +62,28 @@ fn refuse(number: u32, place: usize) -> Answer
     }
 }
 
+fn accept(plan: Plan, constraint: Constraint) -> Answer
+    ensures { λ r. ⌜ r ≡ record { number = 0; place = 0; plan = plan; constraint = constraint } ⌝ }
+{
+    Answer {
+        number: 0,
+        place: 0,
+        plan,
+        constraint,
+    }
+}
+
+// Before the first line.
+fn no_line() -> Seen
+    ensures { λ r. ⌜ r ≡ nothing .seen ⌝ }
+{
+    Seen {
+        kind: 0,
+        timed: 0,
+        listed: 0,
+    }
+}
+
 // Where the line that begins at `at` has its newline; the end of the text where it has none.
 fn line_end(text: &[u8], at: usize) -> usize
     ensures { λ r. ⌜ r ≡ at + partLength newline (drop at (now (text .entry))) ⌝ }
@@ -95,11 +118,7 @@ pub fn read(text: &[u8]) -> Answer
     }
     let mut p = plan::no_plan();
     let mut c = plan::no_constraint();
-    let mut seen = Seen {
-        kind: 0,
-        timed: 0,
-        listed: 0,
-    };
+    let mut seen = no_line();
     let mut at = 0;
     let mut place = 1;
     while at < text.len() {
@@ -124,10 +143,5 @@ pub fn read(text: &[u8]) -> Answer
         at = e + 1;
         place += 1;
     }
-    Answer {
-        number: 0,
-        place: 0,
-        plan: p,
-        constraint: c,
-    }
+    accept(p, c)
 }

@@ -35,7 +35,7 @@ abbrev μ-loop : tie.MeasureT-loop
 
 -- where a turn begins: the text, and what was read so far
 abbrev text : tie.At-loop Inv-loop μ-loop → List ℕ
-text l = l .before .before .before .before .before .args .text .now
+text l = l .before .before .before .before .before .before .args .text .now
 
 abbrev read : tie.At-loop Inv-loop μ-loop → Reading
 read l = record { plan = l .loop .p; constraint = l .loop .c; seen = l .loop .seen }
@@ -77,7 +77,7 @@ roomy e = let l = turn (told (e .before)) in room (read l) (faultless e) (l .loo
 few : (e : tie.Else2 Inv-loop μ-loop) → turn (told (e .before)) .loop .place ≤ mostBytes
 few e =
     let a = told (e .before) in
-    omega (arith, turn a .before .before .before .if1 .left, turn a .loop .inv .1, in-turn a)
+    omega (arith, turn a .before .before .before .before .if1 .left, turn a .loop .inv .1, in-turn a)
 
 bounds : (e : tie.Else2 Inv-loop μ-loop) → let a = told (e .before) in
     (turn a .loop .at ≤ a .before .line-end .result) × (a .before .line-end .result < length (text (turn a)))
@@ -88,7 +88,7 @@ bounds e =
     let f = e .before in (
       omega (arith, ends a),
       line-within (text l) _ _ 0 (read l) (ends a) (in-turn a) (line f) (form f),
-      l .before .before .before .if1 .left,
+      l .before .before .before .before .if1 .left,
     )
 
 -- past what a line adds to the plan, and to the constraint
@@ -100,8 +100,8 @@ past c = past-plan (c .before .before .before .before .before .before)
 
 loop-holds : tie.Need-loop-holds Inv-loop μ-loop
 loop-holds c =
-    rw (c .before .no-plan .ensures, c .no-constraint .ensures)
-    (search needs, search needs, text-short _ (c .before .before .if1 .left), counted-none, search needs, search needs)
+    rw (c .before .before .no-plan .ensures, c .before .no-constraint .ensures, c .no-line .ensures)
+    (search needs, search needs, text-short _ (c .before .before .before .if1 .left), counted-none, search needs, search needs)
 
 returns-2 : tie.Need-returns-2 Inv-loop μ-loop
 returns-2 c =
@@ -166,14 +166,15 @@ len-fits c κs =
 
 returns-4 : tie.Need-returns-4 Inv-loop μ-loop
 returns-4 c =
-    let l = c .before in
-    sym (l .loop .inv .2 ∙ rw (drop-of-length-le (text l) (c .loop-test .left)) (text-ended (l .loop .place) (read l)))
+    let l = c .before .before in
+    c .accept .ensures
+    ∙ sym (l .loop .inv .2 ∙ rw (drop-of-length-le (text l) (c .before .loop-test .left)) (text-ended (l .loop .place) (read l)))
 
 pub read-spec : {M : Type 1} → statement M
 read-spec =
     tie.close (tie.spec Inv-loop μ-loop (λ c κs. search needs)
     (λ c. c .refuse .ensures ∙ sym (text-long _ (c .before .if1 .taken))) (λ c κs. search needs) (λ c κs. search needs)
-    loop-holds (λ c κs. search needs) (λ c κs. omega (arith, c .line-end .ensures)) (λ c. search needs)
+    (λ c κs. search needs) loop-holds (λ c κs. search needs) (λ c κs. omega (arith, c .line-end .ensures)) (λ c. search needs)
     (λ c. search needs) (λ c κs. search needs) returns-2 (λ c κs. search needs) (λ c κs. search needs) returns-3
     (λ c κs. omega (arith, few c, turn (told (c .before)) .loop .inv .4)) (λ c κs. range (c .before .before))
     (λ c κs. search needs) (λ c κs. (search needs, range (c .before .before .before .before .before)))
@@ -182,4 +183,4 @@ read-spec =
     (λ c κs. (search needs, roomy (past-plan (c .before))))
     (λ c κs. (search needs, roomy (past-plan (c .before .before .before)))) len-fits (λ c κs. search needs)
     (λ c. omega (arith, bounds (past c))) (λ c. omega (arith, few (past c))) (λ c. omega (arith, bounds (past c)))
-    loop-again returns-4)
+    loop-again (λ c κs. search needs) returns-4)
