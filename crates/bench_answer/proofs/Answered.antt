@@ -5,7 +5,7 @@ use Prim.Native.Nat.{ℕ, _≤_}
 use native.Mathlib.Omega.{arith}
 use borrow.Author.Tests.{eq-eqb, ne-eqb}
 use lib.ListN.{length, drop, length-append}
-use Rattle.plan.specs.Refusals.{refused, accepted, firstRefusal}
+use Rattle.plan.specs.Refusals.{refused, noRefusal, firstRefusal}
 use Rattle.plan.specs.Buffers.{atStart}
 use Rattle.plan_text.specs.declared.Answer.{Answer}
 use Rattle.plan_text.specs.Text.{readText}
@@ -52,7 +52,7 @@ module _ (text : List ℕ) {a : Answer} (e : a ≡ readText text) (b : List ℕ)
       → answerTo a ≡ refusalLine number place → Lined number place b n b₁ → Answers n b₁
   unfolding lineWritten lineAfter
   by-line number place f h =
-      let o = fits accepted (refusalLine number place) b refl (omega (arith, refusal-longest number place)) in
+      let o = fits noRefusal (refusalLine number place) b refl (omega (arith, refusal-longest number place)) in
       by-text f (h .0 ∙ sym (ap (λ (w : Written). w .written) (o .answer)), h .1 ∙ sym (o .bytes))
 
   pub unread : {n : ℕ} {b₁ : List ℕ} → (a .number ≡ 0 → ⊥) → Lined (a .number) (a .place) b n b₁ → Answers n b₁

@@ -14,8 +14,8 @@ use Rattle.task_set.proofs.Truth.{by-test}
 use Rattle.task_set.proofs.Members.{has-none, without-small}
 use Rattle.plan.specs.declared.Verdict.{Verdict}
 use Rattle.plan.specs.Rules.{mostTasks}
-use Rattle.plan.specs.Refusals.{refused, accepted, unlessAt, firstRefusal}
-use Rattle.plan.proofs.Accepted.{Accepted, accepted as taken}
+use Rattle.plan.specs.Refusals.{refused, noRefusal, unlessAt, firstRefusal}
+use Rattle.plan.proofs.Accepted.{Accepted, noRefusal as taken}
 use Rattle.runs.specs.Running.{Notes, entries, dispatch, step, over}
 use Rattle.runs.specs.Journal.{idle, early, overdue, refusal, newlyStarted}
 use Rattle.runs.proofs.Sound.{report-timely}
@@ -62,8 +62,8 @@ module _ (s : State) (report : ℕ) where
       -- what follows 14, where no reported task is idle
       after-14 : idles ≡ 0
           → unlessAt 15 width (early (s .plan) (s .constraint) (notesOf s) report)
-          (unlessAt 16 width (overdue (s .plan) (s .constraint) (notesOf s) report) accepted)
-          ≡ unlessEmpty 15 earlies (unlessEmpty 16 overdues accepted)
+          (unlessAt 16 width (overdue (s .plan) (s .constraint) (notesOf s) report) noRefusal)
+          ≡ unlessEmpty 15 earlies (unlessEmpty 16 overdues noRefusal)
       after-14 e =
           unless-set 15 _ _ (without-small width report _ small)
           (λ t l. early-set s a few report t l (sym (idle-set s report t l) ∙ ap (λ (x : ℕ). has x t) e ∙ has-none t))

@@ -12,7 +12,7 @@ use Rattle.plan.specs.declared.Plan.{Plan}
 use Rattle.plan.specs.declared.Constraint.{Constraint}
 use Rattle.plan.specs.Rules.{mostTypes, mostTasks, timeOf, predecessorsOf}
 use Rattle.plan.specs.declared.Verdict.{Verdict}
-use Rattle.plan.specs.Refusals.{entryAt, refused, accepted, verdict}
+use Rattle.plan.specs.Refusals.{entryAt, refused, noRefusal, verdict}
 use Rattle.plan.specs.Buffers.{atStart}
 use Rattle.runs.specs.Running.{entries, dispatch}
 use Rattle.runs.specs.Journal.{Answer}
@@ -90,7 +90,7 @@ verdictBy m over finished report =
     (unlessEmpty 14 (without report running)
     (unlessEmpty 15 (without report (m .ripe))
     (unlessEmpty 16 (without (bitAnd (m .due) running) report)
-    accepted)))
+    noRefusal)))
 
 -- a state that is handed over in parts
 abbrev pub stateFrom : Plan → Constraint → ℕ → ℕ → ℕ → List ℕ → List ℕ → State

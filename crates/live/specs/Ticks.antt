@@ -6,7 +6,7 @@ use Rattle.task_set.specs.Sets.{has}
 use Rattle.plan.specs.declared.Plan.{Plan}
 use Rattle.plan.specs.declared.Constraint.{Constraint}
 use Rattle.plan.specs.declared.Verdict.{Verdict}
-use Rattle.plan.specs.Refusals.{refused, accepted, firstRefusal, verdict}
+use Rattle.plan.specs.Refusals.{refused, noRefusal, firstRefusal, verdict}
 use Rattle.runs.specs.Running.{Notes, blank, opening, step}
 use Rattle.runs.specs.Journal.{refusal, newlyStarted}
 use Rattle.live.specs.declared.State.{State}
@@ -29,7 +29,7 @@ started p c = cond (eqb (verdict p c .number) 0) (moved p c blank (opening p c))
 -- 12, "place 0: the state is not sound"; then 13 to 16 on the notes that the state stands for
 unfoldable pub tickVerdict : State → ℕ → Verdict
 tickVerdict s report =
-    firstRefusal (cond (isSound s) accepted (refused 12 0)) (refusal (s .plan) (s .constraint) (notesOf s) report)
+    firstRefusal (cond (isSound s) noRefusal (refused 12 0)) (refusal (s .plan) (s .constraint) (notesOf s) report)
 
 -- Tick: one instant of the running rules, or "The state comes back as handed in"
 unfoldable pub ticked : State → ℕ → Ticked

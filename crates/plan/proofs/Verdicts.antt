@@ -12,7 +12,7 @@ use Rattle.plan.specs.declared.Plan.{Plan}
 use Rattle.plan.specs.declared.Constraint.{Constraint}
 use Rattle.plan.specs.declared.Verdict.{Verdict}
 use Rattle.plan.specs.Rules.{planOk}
-use Rattle.plan.specs.Refusals.{misplaced, unusable, predecessorLater, refused, accepted, unlessAt, verdict}
+use Rattle.plan.specs.Refusals.{misplaced, unusable, predecessorLater, refused, noRefusal, unlessAt, verdict}
 use Rattle.plan.specs.Steps.{unmet}
 use Rattle.plan.proofs.Refusing.{unless-by, unless-passed, cond-passed}
 use Rattle.plan.proofs.Arranged.{later-unmet}
@@ -31,7 +31,7 @@ module _ (p : Plan) (c : Constraint) where
   pub order-by : planOk p ≡ true → c .len ≡ p .tasks → {x y z : ℕ} → x ≡ first (p .tasks) at-9 → y ≡ first (p .tasks) at-10
       → z ≡ first (p .tasks) (unmet (p .predecessors) (c .order))
       → cond (ltb x (p .tasks)) (refused 9 x)
-      (cond (ltb y (p .tasks)) (refused 10 y) (cond (ltb z (p .tasks)) (refused 11 z) accepted))
+      (cond (ltb y (p .tasks)) (refused 10 y) (cond (ltb z (p .tasks)) (refused 11 z) noRefusal))
       ≡ verdict p c
   unfolding verdict
   order-by kept whole {x} {y} {z} ex ey ez =
@@ -41,7 +41,7 @@ module _ (p : Plan) (c : Constraint) where
       n = p .tasks
 
       past-10 : Verdict
-      past-10 = unlessAt 11 n (at-11 n) accepted
+      past-10 = unlessAt 11 n (at-11 n) noRefusal
 
       past-9 : Verdict
       past-9 = unlessAt 10 n at-10 past-10
@@ -58,10 +58,10 @@ module _ (p : Plan) (c : Constraint) where
       searched : ltb x n ≡ false → (i : ℕ) → i < n → at-9 i ≡ false
       searched q = first-none n at-9 (omega (arith, ex, ltb-false x n q))
 
-      tens : ((i : ℕ) → i < n → at-9 i ≡ false) → cond (ltb y n) (refused 10 y) (cond (ltb z n) (refused 11 z) accepted) ≡ past-9
+      tens : ((i : ℕ) → i < n → at-9 i ≡ false) → cond (ltb y n) (refused 10 y) (cond (ltb z n) (refused 11 z) noRefusal) ≡ past-9
       tens ok =
           ap (λ (v : Verdict). cond (ltb y n) (refused 10 y) v)
-          (unless-by 11 n (at-11 n) accepted (ez ∙ first-cong n _ (at-11 n) (λ i l. later-unmet p kept (c .order) ok i l)))
+          (unless-by 11 n (at-11 n) noRefusal (ez ∙ first-cong n _ (at-11 n) (λ i l. later-unmet p kept (c .order) ok i l)))
           ∙ unless-by 10 n at-10 past-10 ey
 
   -- ---- nothing is refused

@@ -5,11 +5,11 @@ use Prim.Native.Nat.{ℕ}
 use lib.Dec.{eqb, ltb}
 use lib.ListN.{length, drop}
 use Rattle.plan.specs.declared.Verdict.{Verdict}
-use Rattle.plan.specs.Refusals.{refused, accepted, firstRefusal}
+use Rattle.plan.specs.Refusals.{refused, noRefusal, firstRefusal}
 
 -- 19, after the refusals v that come before it: "buffer shorter than needed, place the bytes needed"
 abbrev pub fitted : Verdict → ℕ → ℕ → Verdict
-fitted v needed room = firstRefusal v (cond (ltb room needed) (refused 19 needed) accepted)
+fitted v needed room = firstRefusal v (cond (ltb room needed) (refused 19 needed) noRefusal)
 
 -- a buffer with these at its start: "bytes after them are unchanged"
 abbrev pub atStart : List ℕ → List ℕ → List ℕ

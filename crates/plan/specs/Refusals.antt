@@ -33,8 +33,8 @@ predecessorLater predecessors order n i =
 abbrev pub refused : ℕ → ℕ → Verdict
 refused number place = record { number = number; place = place }
 
-abbrev pub accepted : Verdict
-accepted = refused 0 0
+abbrev pub noRefusal : Verdict
+noRefusal = refused 0 0
 
 -- a plan and a constraint with these parts
 abbrev pub planOf : ℕ → List ℕ → ℕ → List ℕ → List ℕ → List ℕ → Plan
@@ -67,4 +67,4 @@ verdict p c =
     (unlessAt 9 (c .len) (misplaced (p .tasks) (c .order))
     (unlessAt 10 (c .len) (unusable (p .types) (p .wcet) (c .order) (c .chosen))
     (unlessAt 11 (c .len) (predecessorLater (p .predecessors) (c .order) (c .len))
-    accepted))))
+    noRefusal))))

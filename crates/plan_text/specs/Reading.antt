@@ -23,12 +23,24 @@ pub record Reading : Type 0 where
 abbrev pub nothing : Reading
 nothing = record { plan = noPlan; constraint = noConstraint; seen = record { kind = 0; timed = 0; listed = 0 } }
 
--- "All U lines precede T, T precede A, A precede C"
+-- the kinds of lines: "All U lines precede T, T precede A, A precede C"
+abbrev pub kindU : ℕ
+kindU = 0
+
+abbrev pub kindT : ℕ
+kindT = 1
+
+abbrev pub kindA : ℕ
+kindA = 2
+
+abbrev pub kindC : ℕ
+kindC = 3
+
 abbrev pub kindOf : Line → ℕ
-kindOf (Units k n) = 0
-kindOf (Times t k b w) = 1
-kindOf (Arrow from to) = 2
-kindOf (Choice t k) = 3
+kindOf (Units k n) = kindU
+kindOf (Times t k b w) = kindT
+kindOf (Arrow from to) = kindA
+kindOf (Choice t k) = kindC
 
 -- number i of a line, from 0 on, in the order of its fields
 abbrev pub number : Line → ℕ → ℕ
@@ -115,17 +127,17 @@ lineDone r line =
     let c = r .constraint in
     record {
       plan = record {
-        types = counted line 0 (p .types);
-        units = stored line 0 (p .units) (v 0) (v 1);
-        tasks = cond (isKind line 1) (max (p .tasks) (v 0 + 1)) (p .tasks);
-        bcet = stored line 1 (p .bcet) (pairIndex (v 0) (v 1)) (v 2);
-        wcet = stored line 1 (p .wcet) (pairIndex (v 0) (v 1)) (v 3);
-        predecessors = stored line 2 (p .predecessors) (v 1) (insert (predecessorsOf (p .predecessors) (v 1)) (v 0));
+        types = counted line kindU (p .types);
+        units = stored line kindU (p .units) (v 0) (v 1);
+        tasks = cond (isKind line kindT) (max (p .tasks) (v 0 + 1)) (p .tasks);
+        bcet = stored line kindT (p .bcet) (pairIndex (v 0) (v 1)) (v 2);
+        wcet = stored line kindT (p .wcet) (pairIndex (v 0) (v 1)) (v 3);
+        predecessors = stored line kindA (p .predecessors) (v 1) (insert (predecessorsOf (p .predecessors) (v 1)) (v 0));
       };
       constraint = record {
-        len = counted line 3 (c .len);
-        order = stored line 3 (c .order) (c .len) (v 0);
-        chosen = stored line 3 (c .chosen) (c .len) (v 1);
+        len = counted line kindC (c .len);
+        order = stored line kindC (c .order) (c .len) (v 0);
+        chosen = stored line kindC (c .chosen) (c .len) (v 1);
       };
-      seen = record { kind = kindOf line; timed = named line 1 (r .seen .timed); listed = named line 3 (r .seen .listed) };
+      seen = record { kind = kindOf line; timed = named line kindT (r .seen .timed); listed = named line kindC (r .seen .listed) };
     }

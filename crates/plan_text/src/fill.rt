@@ -4,7 +4,7 @@ ghost use mathlib.Core.Bool.{cond, false};
 ghost use Prim.Native.Nat.{ℕ, _+_, _≤_, _<_, max};
 ghost use Rattle.task_set.specs.Sets.{insert};
 ghost use Rattle.plan.specs.Rules.{mostTasks, pairIndex, predecessorsOf};
-ghost use Rattle.plan_text.specs.Reading.{counted, isKind, kindOf, named, number, outOfRange, stored};
+ghost use Rattle.plan_text.specs.Reading.{counted, isKind, kindA, kindC, kindOf, kindT, kindU, named, number, outOfRange, stored};
 ghost use Rattle.plan_text.specs.Text.{mostBytes};
 use crate::Line;
 use crate::Seen;
@@ -48,7 +48,7 @@ fn named(tasks: u64, kind: u32, line: Line) -> u64
 
 pub fn seen(seen: Seen, line: Line) -> Seen
     ensures { λ r. ⌜ r
-        ≡ record { kind = kindOf line; timed = named line 1 (seen .timed); listed = named line 3 (seen .listed) } ⌝ }
+        ≡ record { kind = kindOf line; timed = named line kindT (seen .timed); listed = named line kindC (seen .listed) } ⌝ }
 {
     let kind = kind_of(line);
     let timed = named(seen.timed, 1, line);
@@ -62,7 +62,7 @@ pub fn seen(seen: Seen, line: Line) -> Seen
 
 pub fn units(units: &mut [u32; MOST_TYPES], line: Line)
     requires { ⌜ outOfRange line ≡ false ⌝ }
-    ensures { λ _. ⌜ now (units .exit) ≡ stored line 0 (now (units .entry)) (number line 0) (number line 1) ⌝ }
+    ensures { λ _. ⌜ now (units .exit) ≡ stored line kindU (now (units .entry)) (number line 0) (number line 1) ⌝ }
 {
     if let Line::Units(k, n) = line {
         let i = k as usize;
@@ -80,7 +80,7 @@ fn larger(a: usize, b: usize) -> usize
 }
 
 pub fn tasks(tasks: usize, line: Line) -> usize
-    ensures { λ r. ⌜ r ≡ cond (isKind line 1) (max tasks (number line 0 + 1)) tasks ⌝ }
+    ensures { λ r. ⌜ r ≡ cond (isKind line kindT) (max tasks (number line 0 + 1)) tasks ⌝ }
 {
     if let Line::Times(t, _, _, _) = line {
         return larger(tasks, (t as usize) + 1);
@@ -92,7 +92,7 @@ pub fn tasks(tasks: usize, line: Line) -> usize
 pub fn times(times: &mut [u32; MOST_PAIRS], i: usize, line: Line)
     requires { ⌜ (i < 4) × (outOfRange line ≡ false) ⌝ }
     ensures { λ _. ⌜ now (times .exit)
-        ≡ stored line 1 (now (times .entry)) (pairIndex (number line 0) (number line 1)) (number line i) ⌝ }
+        ≡ stored line kindT (now (times .entry)) (pairIndex (number line 0) (number line 1)) (number line i) ⌝ }
 {
     if let Line::Times(t, k, b, w) = line {
         let v = [t, k, b, w];
@@ -104,7 +104,7 @@ pub fn times(times: &mut [u32; MOST_PAIRS], i: usize, line: Line)
 pub fn predecessors(predecessors: &mut [u64; MOST_TASKS], line: Line)
     requires { ⌜ outOfRange line ≡ false ⌝ }
     ensures { λ _. ⌜ now (predecessors .exit)
-        ≡ stored line 2 (now (predecessors .entry)) (number line 1)
+        ≡ stored line kindA (now (predecessors .entry)) (number line 1)
         (insert (predecessorsOf (now (predecessors .entry)) (number line 1)) (number line 0)) ⌝ }
 {
     if let Line::Arrow(from, to) = line {
@@ -117,7 +117,7 @@ pub fn predecessors(predecessors: &mut [u64; MOST_TASKS], line: Line)
 // The tasks of the constraint are number 0 of a C line, the types number 1. There is room for another entry.
 pub fn entries(len: usize, entries: &mut [usize; MOST_TASKS], i: usize, line: Line)
     requires { ⌜ (i < 2) × ((t k : ℕ) → line ≡ Line.Choice t k → len < mostTasks) ⌝ }
-    ensures { λ _. ⌜ now (entries .exit) ≡ stored line 3 (now (entries .entry)) len (number line i) ⌝ }
+    ensures { λ _. ⌜ now (entries .exit) ≡ stored line kindC (now (entries .entry)) len (number line i) ⌝ }
 {
     if let Line::Choice(t, k) = line {
         let v = [t as usize, k as usize];

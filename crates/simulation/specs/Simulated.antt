@@ -10,7 +10,7 @@ use Rattle.plan.specs.declared.Plan.{Plan}
 use Rattle.plan.specs.declared.Constraint.{Constraint}
 use Rattle.plan.specs.declared.Verdict.{Verdict}
 use Rattle.plan.specs.Rules.{mostTasks}
-use Rattle.plan.specs.Refusals.{refused, accepted, unlessAt, firstRefusal, verdict}
+use Rattle.plan.specs.Refusals.{refused, noRefusal, unlessAt, firstRefusal, verdict}
 use Rattle.runs.specs.Running.{worst, allowed, orZero, ended, response}
 use Rattle.simulation.specs.declared.Simulation.{Simulation}
 
@@ -27,7 +27,7 @@ unfoldable pub timesVerdict : Plan → Constraint → List ℕ → Verdict
 timesVerdict p c times =
     cond (not (eqb (length times) (p .tasks))) (refused 17 (length times))
     (unlessAt 18 (p .tasks) (outside p c times)
-    accepted)
+    noRefusal)
 
 -- "8 to 11. The simulation then has 17 .. 18"
 unfoldable pub simulationVerdict : Plan → Constraint → List ℕ → Verdict

@@ -9,7 +9,7 @@ use lib.ListN.{length, drop, length-append}
 use lib.Seq.{sets-eq}
 use Rattle.plan.specs.declared.Constraint.{Constraint}
 use Rattle.plan.specs.declared.Verdict.{Verdict}
-use Rattle.plan.specs.Refusals.{refused, accepted, firstRefusal}
+use Rattle.plan.specs.Refusals.{refused, noRefusal, firstRefusal}
 use Rattle.plan.specs.Buffers.{atStart}
 use Rattle.simulation.specs.declared.Simulation.{Simulation}
 use Rattle.timetable.specs.declared.Written.{Written}
@@ -64,9 +64,9 @@ refusal-longest number place = omega (arith, refusal-length number place, decima
 
 pub line-short : (b line : List ℕ) → length b < length line → (0 ≡ lineWritten (length b) line) × (b ≡ lineAfter b line)
 unfolding lineWritten lineAfter
-line-short b line l = let o = too-short accepted line b refl refl l in (ap (λ (w : Written). w .written) (o .answer), o .bytes)
+line-short b line l = let o = too-short noRefusal line b refl refl l in (ap (λ (w : Written). w .written) (o .answer), o .bytes)
 
 pub line-put : {b line b₁ : List ℕ} {n : ℕ} → Room b 0 line → Put b 0 line b₁ n
     → (n ≡ lineWritten (length b) line) × (b₁ ≡ lineAfter b line)
 unfolding lineWritten lineAfter
-line-put {b} {line} r p = let o = writes accepted line b refl r p in (ap (λ (w : Written). w .written) (o .answer), o .bytes)
+line-put {b} {line} r p = let o = writes noRefusal line b refl r p in (ap (λ (w : Written). w .written) (o .answer), o .bytes)

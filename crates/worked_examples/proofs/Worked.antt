@@ -11,5 +11,9 @@ use Rattle.worked_examples.specs.PlanA.{times, planWith, planA, fiveEntr
 use Rattle.worked_examples.specs.Table.{run, check, listed, ticks, table, Holds}
 
 pub worked : Holds table
-unfolding all any count first tabulate has insert setOf timeOf predecessorsOf usable countsOk unitsOk pairOk pairsOk someTypeOk predecessorsOk taskOk planOk misplaced unusable predecessorLater unlessAt verdict sum greatest entries typeIn typeOf best worst cleared busy mayStart dispatch step opening timed over horizon ended response idle early overdue refusal hear newlyStarted answer openingAnswer answersFrom answers times planWith planA fiveEntries orderA orderB run check listed ticks table
+unfolding all any count first tabulate has insert setOf timeOf predecessorsOf usable countsOk unitsOk pairOk pairsOk
+    someTypeOk predecessorsOk taskOk planOk misplaced unusable predecessorLater unlessAt verdict sum greatest entries typeIn
+    typeOf best worst cleared busy mayStart dispatch step opening timed over horizon ended response idle early overdue refusal
+    hear newlyStarted answer openingAnswer answersFrom answers times planWith planA fiveEntries orderA orderB run check listed
+    ticks table
 worked = (refl, (refl, (refl, (refl, (refl, (refl, (refl, (refl, (refl, (refl, (refl, (refl, (refl, (refl, tt))))))))))))))

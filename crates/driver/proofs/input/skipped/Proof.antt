@@ -1,4 +1,5 @@
--- `driver::input::skipped` is safe and ends. The measure is how many bytes are left to skip: each turn skips at least one. Assumes nothing.
+-- `driver::input::skipped` is safe and ends. The measure is how many bytes are left to skip: each turn skips at least one.
+-- Assumes nothing.
 use borrow.Author.Needs.{needs}
 use Rattle.driver.proofs.input.skipped.Statement.{statement}
 use Rattle.driver.proofs.input.skipped.Tie as tie
