@@ -111,7 +111,7 @@ module _ (p : Plan) (c : Constraint) (reports numbers places sets : List ℕ) {v
         answer = rw (none, e, g);
         numbered = rw g;
         placed = rw g;
-        begun = rw g;
+        sets-filled = rw g;
         faithful = λ ok. claim p c ok reports;
       }
 
@@ -127,7 +127,7 @@ module _ (p : Plan) (c : Constraint) (reports numbers places sets : List ℕ) {v
         answer = rw (ap (λ (x : Outcome). x .0) ran, opened, g);
         numbered = rw g (ap (λ (x : Outcome). x .1 .0) ran);
         placed = rw g (ap (λ (x : Outcome). x .1 .1 .0) ran);
-        begun = rw g (ap (λ (x : Outcome). x .1 .1 .1) ran);
+        sets-filled = rw g (ap (λ (x : Outcome). x .1 .1 .1) ran);
         faithful = λ ok. claim p c ok reports;
       }
 

@@ -15,7 +15,7 @@ use Rattle.task_set.proofs.Members.{has-none, without-small}
 use Rattle.plan.specs.declared.Verdict.{Verdict}
 use Rattle.plan.specs.Rules.{mostTasks}
 use Rattle.plan.specs.Refusals.{refused, noRefusal, unlessAt, firstRefusal}
-use Rattle.plan.proofs.Accepted.{Accepted, noRefusal as taken}
+use Rattle.plan.proofs.Accepted.{Accepted, accepted}
 use Rattle.runs.specs.Running.{Notes, entries, dispatch, step, over}
 use Rattle.runs.specs.Journal.{idle, early, overdue, refusal, newlyStarted}
 use Rattle.runs.proofs.Sound.{report-timely}
@@ -44,7 +44,7 @@ module _ (s : State) (report : ℕ) where
 
     module _ (small : report < 2 ^ width) where
       a : Accepted (s .plan) (s .constraint)
-      a = taken (s .plan) (s .constraint) (sound-checked s sound)
+      a = accepted (s .plan) (s .constraint) (sound-checked s sound)
 
       few : s .started ≤ s .plan .tasks
       few = sound-few s sound

@@ -47,5 +47,5 @@ pub record Replays
   pub answer : r ≡ replayed p c reports (roomIn numbers places sets)
   pub numbered : numbers' ≡ written (λ a. a .number) p c reports (roomIn numbers places sets) numbers
   pub placed : places' ≡ written (λ a. a .place) p c reports (roomIn numbers places sets) places
-  pub begun : sets' ≡ written (λ a. a .started) p c reports (roomIn numbers places sets) sets
+  pub sets-filled : sets' ≡ written (λ a. a .started) p c reports (roomIn numbers places sets) sets
   pub faithful : verdict p c .number ≡ 0 → Faithful p c reports

@@ -1,8 +1,15 @@
--- The laws that belong to no one function.
+-- Laws that every crate above uses, in reading order.
+-- tests as truth values
 pub mod Truth
+-- every, some, how many, below a bound
 pub mod Bounded
+-- the first that passes
 pub mod Search
+-- loops that gather an answer
 pub mod Upto
+-- n different numbers below n are all of them
 pub mod Cover
+-- members of a set in a word
 pub mod Members
+-- lists by index
 pub mod Tables

@@ -1,7 +1,13 @@
--- The laws that belong to no one function.
+-- The laws of the timetable, in reading order.
+-- decimal numbers: their digits and lengths
 pub mod Digits
+-- bytes stored one after the other are a text
 pub mod Stores
+-- the lines of a run, and their lengths
 pub mod Text
+-- a text or a refusal in a lent buffer
 pub mod Outcomes
+-- the runs that a timetable shows
 pub mod Ran
+-- no timetable is longer than the longest
 pub mod Longest
