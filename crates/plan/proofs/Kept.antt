@@ -1,6 +1,6 @@
 -- What a plan that breaks no rule gives. Assumes nothing.
-use mathlib.Core.Path.{_≡_, refl}
-use mathlib.Core.Bool.{Bool, true, false, _&&_, _||_, not}
+use mathlib.Core.Path.{_≡_, sym, _∙_}
+use mathlib.Core.Bool.{Bool, true, false, _&&_, _||_, not, or-false}
 use mathlib.Core.Logic.{_⊎_, inl, inr}
 use Prim.Native.Nat.{ℕ, _≤_, _<_}
 use native.Mathlib.Nat.{lt-of-lt-of-le}
@@ -17,11 +17,7 @@ use Rattle.plan.specs.Rules.{mostTypes, mostUnits, mostTasks, longestTim
 
 -- a rule for present things and one for absent ones, at a present thing
 at-present : (here a b : Bool) → (here && a) || (not here && b) ≡ true → here ≡ true → a ≡ true
-at-present here a b e f = or-false-right a (rw f at e)
-  where
-    or-false-right : (x : Bool) → x || false ≡ true → x ≡ true
-    or-false-right true g = refl
-    or-false-right false g = g
+at-present here a b e f = sym (or-false a) ∙ (rw f at e)
 
 pub between-low : (a x b : ℕ) → between a x b ≡ true → a ≤ x
 between-low a x b e = leb-true a x (and-left (leb a x) (leb x b) e)

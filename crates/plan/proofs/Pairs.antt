@@ -30,6 +30,11 @@ pair-parts here (suc best) (suc worst) =
       or-false,
     ) (and-comm here _)
 
+-- where a pair lies
+pub place-is : (t k : ℕ) → t < mostTasks → k < mostTypes → pairPlace t k ≡ pairIndex t k
+unfolding pairPlace
+place-is t k l m = rw (lt-ltb t mostTasks l, lt-ltb k mostTypes m)
+
 -- a time by where its pair lies
 module _ (times : List ℕ) (t k : ℕ) {i : ℕ} (e : i ≡ pairPlace t k) where
   pub time-past : mostPairs ≤ i → 0 ≡ timeOf times t k

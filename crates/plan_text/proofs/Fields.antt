@@ -2,7 +2,7 @@
 use mathlib.Core.Path.{_≡_, refl, sym, ap, _∙_}
 use mathlib.Core.Bool.{Bool, true, false, cond, _&&_, _||_, not, and-true, and-false, and-assoc}
 use mathlib.Core.List.{List, [], _∷_, _++_}
-use Prim.Native.Nat.{ℕ, zero, suc, _+_, _*_, _≤_, _<_, zero-le}
+use Prim.Native.Nat.{ℕ, zero, suc, _+_, _*_, _^_, _≤_, _<_, zero-le}
 use native.Mathlib.Nat.{le-of-suc-le-suc, not-suc-le-zero, pow-le-pow-right, pow-succ'}
 use native.Mathlib.Numerals.{add-one}
 use native.Mathlib.Omega.{arith}
@@ -37,7 +37,7 @@ digits-none s = record { within = zero-le; few = zero-le; digits = refl; value =
 
 module _ {s : List ℕ} {n v : ℕ} (d : Digits s n v) where
   -- the value of so few digits is small
-  pub value-fits : v < 100000
+  pub value-fits : v < 10 ^ mostDigits
   value-fits = omega (arith, d .small, pow-le-pow-right {n = 10} (lit< tt) (d .few))
 
   pub digits-more : n < length s → (n ≡ mostDigits → ⊥) → isDigit (getD s n 0) ≡ true

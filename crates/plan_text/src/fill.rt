@@ -96,7 +96,7 @@ pub fn times(times: &mut [u32; MOST_PAIRS], i: usize, line: Line)
 {
     if let Line::Times(t, k, b, w) = line {
         let v = [t, k, b, w];
-        let pair = (t as usize) * MOST_TYPES + (k as usize);
+        let pair = plan::pair_index(t as usize, k as usize);
         times[pair] = v[i];
     }
 }
