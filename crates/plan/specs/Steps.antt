@@ -1,5 +1,5 @@
--- What inner functions compute and rely on, here and in the crates above. No promise of a public function cites it. Assumes
--- nothing.
+-- What inner functions compute and rely on, here and in the crates above. No promise of a public function cites it.
+-- Assumes nothing.
 use mathlib.Core.Path.{_≡_}
 use mathlib.Core.Bool.{Bool, cond, _&&_, _||_, not}
 use mathlib.Core.List.{List}

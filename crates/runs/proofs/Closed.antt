@@ -1,6 +1,6 @@
 -- The notes of a timed run in closed form: a task starts at its greedy start and finishes its time later. Assumes nothing.
 use mathlib.Core.Path.{_≡_, refl, sym, ap, ap₂, _∙_, subst, fun-ext}
-use mathlib.Core.Bool.{Bool, true, false, cond, _&&_, _||_, not, or-true, or-false, and-false, and-comm}
+use mathlib.Core.Bool.{Bool, true, false, cond, _&&_, _||_, or-true, or-false, and-false, and-comm}
 use mathlib.Core.List.{List}
 use mathlib.Core.Option.{Option, none, some}
 use Prim.Native.Nat.{ℕ, zero, suc, _+_, _≤_, _<_, zero-le}
@@ -21,8 +21,8 @@ use Rattle.dispatch_theory.proofs.Greedy.{ends, ordered, after-le}
 use Rattle.dispatch_theory.proofs.Rules.{holds, ruleGate}
 use Rattle.dispatch_theory.proofs.Reorder.{count-upto}
 use Rattle.runs.specs.Running.{Entry, entries, typeOf, Notes, given, hasStarted, hasFinished, isRunning, cleared, busy, mayStart, begin, dispatch, advance, step, blank, opening, timeUp, timed}
-use Rattle.runs.proofs.Positions.{taskAt, typeAt, position, position-entry, position-low, entry-position, type-entry, count-by-position}
-use Rattle.runs.proofs.Orders.{orderOf, Lasting, durations, startsOf, startOf, finishOf, greedy, entryOf, entries-from, entries-end}
+use Rattle.runs.proofs.Positions.{taskAt, position, position-entry, position-low, entry-position, type-entry, count-by-position}
+use Rattle.runs.proofs.Orders.{orderOf, Lasting, durations, startsOf, startOf, greedy, entryOf, entries-from, entries-end}
 
 -- x once it has come
 abbrev pub once : Bool → ℕ → Option ℕ

@@ -1,6 +1,6 @@
 -- The theorems about runs, each stated once, of tasks of a plan and a constraint that the check takes. Open this file first.
 -- Assumes nothing.
-use mathlib.Core.Path.{_≡_, ap, _∙_}
+use mathlib.Core.Path.{_≡_}
 use mathlib.Core.Bool.{true, false, cond}
 use mathlib.Core.List.{List}
 use mathlib.Core.Option.{none, some}
@@ -18,8 +18,8 @@ use Rattle.dispatch_theory.proofs.Rules.{ruleGate}
 use Rattle.runs.specs.Running.{entries, worst, Allowed, hasStarted, isRunning, busy, dispatch, advance, step, blank, opening, timeUp, timed, over, horizon, response, bound}
 use Rattle.runs.specs.Progress.{stage, asFar}
 use Rattle.runs.specs.Journal.{journal, answers, acceptedCount, takenTime}
-use Rattle.runs.proofs.Positions.{taskAt, position, position-entry, allowed-lasts, worst-lasts}
-use Rattle.runs.proofs.Orders.{Lasting, orderOf, durations, startsOf, startOf, greedy}
+use Rattle.runs.proofs.Positions.{taskAt, allowed-lasts, worst-lasts}
+use Rattle.runs.proofs.Orders.{Lasting, orderOf, durations, startsOf, greedy}
 use Rattle.runs.proofs.Closed.{start-finish, timed-start}
 use Rattle.runs.proofs.Compare.{as-far}
 use Rattle.runs.proofs.Response as response-laws
@@ -35,8 +35,8 @@ module _ (p : Plan) (c : Constraint) (ok : verdict p c .number ≡ 0) where
   -- ---- one run
 
   -- "The walk looks at the next unstarted task .. At the first task that may not start, the walk stops": the task at each
-  -- position
-  -- starts at its greedy start, the first instant, not before the start at the position before it, at which its gate is open
+  -- position starts at its greedy start, the first instant, not before the start at the position before it, at which its
+  -- gate is open
   pub starts-greedy : (d : ℕ → ℕ) → Allowed p c d → (i k : ℕ) → k < p .tasks
       → timed p c d i .start (taskAt c k) ≡ cond (leb (startsOf p c d k) i) (some (startsOf p c d k)) none
   starts-greedy d w = timed-start a d (allowed-lasts a d w)

@@ -1,12 +1,12 @@
 -- The answers of `simulate` and `bound`, branch by branch, and what the inner functions are handed. Assumes nothing.
 use mathlib.Core.Path.{_≡_, refl, sym, ap, _∙_, subst}
-use mathlib.Core.Bool.{false, not}
+use mathlib.Core.Bool.{false}
 use mathlib.Core.List.{List}
 use Prim.Native.Nat.{ℕ, _≤_, _<_, zero-le}
 use native.Mathlib.Nat.{le-trans, le-of-eq}
 use native.Mathlib.Omega.{arith}
 use borrow.Author.Tests.{eq-eqb, ne-eqb, eqb-true, lt-ltb, le-ltb, not-false}
-use lib.Dec.{eqb, ltb}
+use lib.Dec.{eqb}
 use lib.ListN.{length}
 use Rattle.task_set.specs.Bounded.{first}
 use Rattle.task_set.proofs.Truth.{by-test}
@@ -14,12 +14,12 @@ use Rattle.task_set.proofs.Search.{first-none}
 use Rattle.plan.specs.declared.Plan.{Plan}
 use Rattle.plan.specs.declared.Constraint.{Constraint}
 use Rattle.plan.specs.declared.Verdict.{Verdict}
-use Rattle.plan.specs.Rules.{between, timeOf}
+use Rattle.plan.specs.Rules.{timeOf}
 use Rattle.plan.specs.Refusals.{refused, firstRefusal, unlessAt, verdict}
 use Rattle.plan.specs.Steps.{Positions}
 use Rattle.plan.proofs.Accepted.{Accepted, accepted, positions}
 use Rattle.dispatch_theory.specs.Sums.{sum}
-use Rattle.runs.specs.Running.{typeOf, best, worst, leastTime, allowed, Allowed, bound}
+use Rattle.runs.specs.Running.{typeOf, worst, allowed, Allowed, bound}
 use Rattle.runs.proofs.Positions.{taskAt, type-entry, best-entry, worst-entry, task-times, allowed-most, allowed-lasts, worst-allowed}
 use Rattle.runs.proofs.Theorems.{bound-sum}
 use Rattle.simulation.specs.declared.Simulation.{Simulation}

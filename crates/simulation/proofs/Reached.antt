@@ -20,13 +20,11 @@ use Rattle.task_set.proofs.Tables.{tabulate-cong}
 use Rattle.plan.specs.declared.Plan.{Plan}
 use Rattle.plan.specs.declared.Constraint.{Constraint}
 use Rattle.plan.specs.Rules.{mostTypes, mostUnits, mostTasks, longestTime, predecessorsOf}
-use Rattle.plan.specs.Refusals.{entryAt}
 use Rattle.plan.proofs.Accepted.{Accepted}
 use Rattle.dispatch_theory.proofs.Greedy.{ends, after}
 use Rattle.dispatch_theory.proofs.Units.{Booked, booked-none, booked-more, start-is, open-now}
-use Rattle.dispatch_theory.specs.Sums.{sum, greatest}
-use Rattle.dispatch_theory.proofs.Sums.{sum-le, greatest-lub, greatest-le, greatest-cong}
-use Rattle.dispatch_theory.proofs.Reorder.{greatest-reorder}
+use Rattle.dispatch_theory.specs.Sums.{greatest}
+use Rattle.dispatch_theory.proofs.Sums.{sum-le, greatest-lub, greatest-le}
 use Rattle.runs.specs.Running.{orZero, horizon, ended, response}
 use Rattle.runs.proofs.Positions.{taskAt, typeAt, position, position-entry}
 use Rattle.runs.proofs.Orders.{orderOf, Lasting, durations, startsOf, startOf, finishOf, greedy}

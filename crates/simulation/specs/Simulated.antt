@@ -1,5 +1,5 @@
--- The simulation and the bound (document 01, "Running rules"; "When an operation says no", Simulation and bound). Assumes
--- nothing.
+-- The simulation and the bound (document 01, "Running rules"; "When an operation says no", Simulation and bound).
+-- Assumes nothing.
 use mathlib.Core.Bool.{Bool, cond, not}
 use mathlib.Core.List.{List}
 use Prim.Native.Nat.{ℕ}

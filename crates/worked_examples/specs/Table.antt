@@ -1,5 +1,5 @@
--- The worked examples P1 to P12 (document 01, "Runs on plan A") as rows of numbers, computed from the definitions. Assumes
--- nothing.
+-- The worked examples P1 to P12 (document 01, "Runs on plan A") as rows of numbers, computed from the definitions.
+-- Assumes nothing.
 use mathlib.Core.Bool.{cond}
 use mathlib.Core.Path.{_≡_}
 use mathlib.Core.List.{List, [], _∷_, _++_}

@@ -1,5 +1,4 @@
 -- `plan::time_of` meets its contract. Assumes nothing.
-use mathlib.Core.Path.{_≡_, refl, ap, _∙_}
 use borrow.Author.Needs.{needs}
 use Rattle.plan.proofs.Pairs.{time-past, time-there}
 use Rattle.plan.proofs.time_of.Statement.{statement}

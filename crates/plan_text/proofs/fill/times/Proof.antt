@@ -1,9 +1,9 @@
 -- `plan_text::fill::times` meets its contract. Assumes nothing.
-use mathlib.Core.Path.{_≡_, _∙_}
+use mathlib.Core.Path.{_∙_}
 use Prim.Native.Nat.{_<_}
 use native.Mathlib.Omega.{arith}
 use borrow.Author.Needs.{needs}
-use Rattle.plan.specs.Rules.{mostPairs, pairIndex}
+use Rattle.plan.specs.Rules.{mostPairs}
 use Rattle.plan.proofs.Pairs.{place-is}
 use Rattle.plan_text.proofs.Faultless.{times-pair}
 use Rattle.plan_text.proofs.Told.{other}
