@@ -71,11 +71,11 @@ pub fn sessions(dir: &str, command: &str, seed: u64, count: u64) -> std::io::Res
     }
     println!("{count} sessions, {commands} commands, no difference");
     reached.print();
-    let missing = reached.missing();
-    if !missing.is_empty() {
-        println!("never reached: {}", missing.join(", "));
+    let faults = reached.faults();
+    for fault in &faults {
+        println!("{fault}");
     }
-    Ok(missing.is_empty())
+    Ok(faults.is_empty())
 }
 
 /// Compares the program of document 01 on random texts.

@@ -194,6 +194,7 @@ impl Driver {
         let run = answer.as_ref().unwrap_or(&zero);
         let mut rest = vec![run.response as u64];
         rest.extend(starts_and_finishes(&run.starts, &run.finishes));
+        self.reached.note_times("M", &self.plan, &self.constraint, times, &answer);
         self.say("M", "simulate", answer.as_ref().err(), &rest);
     }
 
@@ -207,6 +208,9 @@ impl Driver {
         let state = std::mem::replace(&mut self.state, State::zero());
         let (state, answer) = state.tick(report);
         self.state = state;
+        if answer.is_ok() {
+            self.reached.note_tick("T", &self.state, self.state.instant);
+        }
         self.say("T", "tick", answer.err().as_ref(), &[answer.unwrap_or(0)]);
     }
 
@@ -226,6 +230,7 @@ impl Driver {
     fn timetable(&mut self, room: usize, times: &[u32]) {
         let mut buffer = vec![b'#'; room];
         let answer = timetable(&self.plan, &self.constraint, times, &mut buffer);
+        self.reached.note_times("Y", &self.plan, &self.constraint, times, &answer);
         self.say_timetable("Y", answer, &buffer);
     }
 
@@ -242,13 +247,17 @@ impl Driver {
 
     /// Leaves the kept state alone.
     fn replay(&mut self, reports: &[u64]) {
-        let (_, answer) = replay(&self.plan, &self.constraint, reports);
-        let (mut started, mut ticks) = (0, Vec::new());
+        let (state, answer) = replay(&self.plan, &self.constraint, reports);
+        let (mut started, mut ticks, mut instant) = (0, Vec::new(), 0);
         if let Ok(replayed) = &answer {
             started = replayed.started;
             for tick in &replayed.ticks {
                 let [number, place] = number_and_place(tick.err().as_ref());
                 self.reached.note(TICKS_OF_Z, number);
+                if tick.is_ok() {
+                    instant += 1;
+                    self.reached.note_tick(TICKS_OF_Z, &state, instant);
+                }
                 ticks.extend([number, place, tick.unwrap_or(0)]);
             }
         }

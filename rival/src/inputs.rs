@@ -4,7 +4,7 @@ use crate::driver::LONGEST_LIST;
 use crate::limits::*;
 use crate::plan::*;
 use crate::random::Random;
-use crate::simulate::simulate;
+use crate::simulate::{simulate, worst_times};
 use crate::state::{start, State};
 
 /// Numbers on the edges of what fits or is allowed.
@@ -27,16 +27,19 @@ pub const EDGES: [u64; 16] = [
     u64::MAX,
 ];
 
-/// All worst, all best, or anything between. Only for accepted plans and constraints.
+/// All worst, all best, all 1, a mixture of these, or anything from 1 to worst. Only for accepted
+/// plans and constraints.
 pub fn allowed_times(random: &mut Random, plan: &Plan, constraint: &Constraint) -> Vec<u32> {
     let chosen = constraint.chosen();
-    let which = random.below(4);
+    let which = random.below(6);
     let mut time = |t: usize| {
         let (best, worst) = (plan.best[pair(t, chosen[t])], plan.worst[pair(t, chosen[t])]);
         match which {
             0 => worst,
             1 => best,
-            _ => random.from(best.into(), worst.into()) as u32,
+            2 => 1,
+            3 => random.pick(&[1, best, worst]),
+            _ => random.from(1, worst.into()) as u32,
         }
     };
     (0..plan.tasks as usize).map(&mut time).collect()
@@ -44,18 +47,22 @@ pub fn allowed_times(random: &mut Random, plan: &Plan, constraint: &Constraint) 
 
 /// Times that are allowed, or not, or not as many as tasks.
 pub fn times(random: &mut Random, plan: &Plan, constraint: &Constraint) -> Vec<u64> {
-    let mut times: Vec<u64> = match check(plan, constraint) {
-        Ok(()) => allowed_times(random, plan, constraint).into_iter().map(u64::from).collect(),
-        Err(_) => vec![1; random.below(LONGEST_LIST as u64 + 3) as usize],
+    let accepted = check(plan, constraint).is_ok();
+    let mut times: Vec<u64> = match accepted {
+        true => allowed_times(random, plan, constraint).into_iter().map(u64::from).collect(),
+        false => vec![1; random.below(LONGEST_LIST as u64 + 3) as usize],
     };
     match random.below(8) {
         0 => drop(times.pop()),
         1 => times.push(1),
         2 => times.truncate(random.below(3) as usize),
-        3 | 4 if !times.is_empty() => {
-            let at = random.below(times.len() as u64) as usize;
-            let edge = random.pick(&EDGES);
-            times[at] = random.pick(&[edge, times[at] + 1, times[at].saturating_sub(1)]);
+        3 | 4 if accepted => {
+            let worst = worst_times(plan, constraint);
+            for _ in 0..random.from(1, 2) {
+                let t = random.below(plan.tasks) as usize;
+                let edge = random.pick(&EDGES);
+                times[t] = random.pick(&[0, edge, u64::from(worst[t]) + 1]);
+            }
         }
         _ => {}
     }
@@ -70,25 +77,25 @@ pub fn legal_report(random: &mut Random, state: &State) -> u64 {
     let chosen = state.constraint.chosen();
     let mut report = 0;
     for t in members(state.running()) {
-        let (ran, at) = (state.instant + 1 - state.starts[t], pair(t, chosen[t]));
-        let must = ran >= state.plan.worst[at];
-        let may = ran >= state.plan.best[at];
-        if must || (may && random.once_in(3)) {
+        let ran = state.instant + 1 - state.starts[t];
+        if ran >= state.plan.worst[pair(t, chosen[t])] || random.once_in(3) {
             report |= 1 << t;
         }
     }
     report
 }
 
-/// A report that is legal, or has a stranger, lacks a task, comes too early, or is any set.
+/// A report that is legal, or has a stranger, lacks a task, has all that run, has the tasks that
+/// only start at the new instant, or is any set.
 pub fn some_report(random: &mut Random, state: &State) -> u64 {
     let legal = legal_report(random, state);
-    match random.below(14) {
+    match random.below(15) {
         0 => legal | 1 << random.below(TASKS as u64),
         1 => legal & random.number(),
         2 => random.number(),
-        3 if state.sound() => legal | state.running(),
-        4 => 0,
+        3 if state.sound() => state.running(),
+        4 => legal | state.clone().tick(legal).1.unwrap_or(0),
+        5 => 0,
         _ => legal,
     }
 }

@@ -88,14 +88,10 @@ impl Journal {
         }
         let running = |t: usize| t < n && self.progress(t) == Progress::Running;
         let reported = |t: usize| report >> t & 1 == 1;
-        let best = |t: usize| self.plan.best[pair(t, self.kind(t))];
         let worst = |t: usize| self.plan.worst[pair(t, self.kind(t))];
         let say = |number, t: usize| Some(Refusal { number, place: t as u64 });
         if let Some(t) = (0..TASKS).find(|&t| reported(t) && !running(t)) {
             return say(14, t);
-        }
-        if let Some(t) = (0..n).find(|&t| reported(t) && self.ran(t) < best(t)) {
-            return say(15, t);
         }
         let over = |t: &usize| running(*t) && !reported(*t) && self.ran(*t) >= worst(*t);
         (0..n).find(over).and_then(|t| say(16, t))

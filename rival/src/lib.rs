@@ -1,4 +1,4 @@
-//! A rival implementation of bench plans, written from document 01 alone.
+//! A rival implementation of bench plans, written from documents 01 and 02 alone.
 pub mod check;
 pub mod compare;
 pub mod driver;

@@ -11,8 +11,7 @@ pub fn simulate(plan: &Plan, constraint: &Constraint, times: &[u32]) -> Result<T
     }
     let chosen = constraint.chosen();
     for (t, time) in times.iter().enumerate() {
-        let at = pair(t, chosen[t]);
-        if *time < plan.best[at] || *time > plan.worst[at] {
+        if !(1..=plan.worst[pair(t, chosen[t])]).contains(time) {
             return refuse(18, t as u64);
         }
     }

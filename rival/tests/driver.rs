@@ -1,6 +1,6 @@
 //! Sessions of the driver, answer by answer, on plan A of document 01.
 use rival::driver::{session, LONGEST_LIST, MOST_ROOM, TOO_LONG};
-use rival::reached::TICKS_OF_Z;
+use rival::reached::*;
 
 const PLAN_A: &str = include_str!("../../examples/plan-a.txt");
 
@@ -28,6 +28,8 @@ fn given_times() {
     assert_eq!(answers(PLAN_A, &["Y\t47\t2\t3\t4\t3\t2"]), answers(PLAN_A, &["W\t47"]));
     let of_best = ["timetable\t0\t0\t44", "0\t0\t0\t1", "1\t0\t1\t2", "2\t1\t1\t3", "3\t1\t2\t3", "4\t0\t3\t4", "R\t4"];
     assert_eq!(answers(PLAN_A, &["Y\t45\t1\t1\t2\t1\t1"]), [&of_best[..], &["#"]].concat());
+    let of_1 = ["timetable\t0\t0\t44", "0\t0\t0\t1", "1\t0\t1\t2", "2\t1\t1\t2", "3\t1\t2\t3", "4\t0\t2\t3", "R\t3"];
+    assert_eq!(answers(PLAN_A, &["Y\t45\t1\t1\t1\t1\t1"]), [&of_1[..], &["#"]].concat());
 }
 
 #[test]
@@ -35,6 +37,7 @@ fn refused_times() {
     assert_eq!(answers(PLAN_A, &["Y\t3\t2\t3\t4\t3"]), ["timetable\t17\t4\t0", "###"]);
     assert_eq!(answers(PLAN_A, &["Y\t0"]), ["timetable\t17\t0\t0", ""]);
     assert_eq!(answers(PLAN_A, &["Y\t1\t2\t3\t5\t3\t0"]), ["timetable\t18\t2\t0", "#"]);
+    assert_eq!(answers(PLAN_A, &["Y\t1\t2\t0\t5\t3\t2"]), ["timetable\t18\t1\t0", "#"]);
     assert_eq!(answers(PLAN_A, &["Y\t0\t2\t3\t4\t3\t2"]), ["timetable\t19\t44\t0", ""]);
     let short = answers(PLAN_A, &["Y\t43\t2\t3\t4\t3\t2"]);
     assert_eq!(short, ["timetable\t19\t44\t0".to_string(), "#".repeat(43)]);
@@ -50,7 +53,7 @@ fn lists_of_reports() {
     assert_eq!(answer("Z"), "replay\t0\t0\t1");
     assert_eq!(answer("Z\t1"), "replay\t0\t0\t1\t0\t0\t6");
     assert_eq!(answer("Z\t0\t0"), "replay\t0\t0\t1\t0\t0\t0\t16\t0\t0");
-    assert_eq!(answer("Z\t1\t4"), "replay\t0\t0\t1\t0\t0\t6\t15\t2\t0");
+    assert_eq!(answer("Z\t1\t4"), "replay\t0\t0\t1\t0\t0\t6\t0\t0\t0");
     assert_eq!(answer("Z\t1\t8"), "replay\t0\t0\t1\t0\t0\t6\t14\t3\t0");
 }
 
@@ -60,8 +63,14 @@ fn a_whole_run() {
     let run = "replay\t0\t0\t1\t0\t0\t6\t0\t0\t8\t0\t0\t16\t0\t0\t0";
     assert_eq!(answer("Z\t1\t2\t12\t16"), run);
     assert_eq!(answer("Z\t1\t2\t12\t16\t0"), format!("{run}\t13\t0\t0"));
-    let faults = "replay\t0\t0\t1\t14\t5\t0\t0\t0\t6\t15\t2\t0\t0\t0\t8\t0\t0\t16\t0\t0\t0";
-    assert_eq!(answer("Z\t32\t1\t4\t2\t12\t16"), faults);
+    let faults = "replay\t0\t0\t1\t14\t5\t0\t0\t0\t6\t14\t3\t0\t0\t0\t8\t0\t0\t16\t0\t0\t0";
+    assert_eq!(answer("Z\t32\t1\t8\t2\t12\t16"), faults);
+}
+
+/// Every task ends in its first tick.
+#[test]
+fn the_quickest_run() {
+    assert_eq!(answer("Z\t1\t6\t24\t0"), "replay\t0\t0\t1\t0\t0\t6\t0\t0\t24\t0\t0\t0\t13\t0\t0");
 }
 
 #[test]
@@ -123,8 +132,39 @@ fn what_was_reached() {
     let input = format!("{}\n{PLAN_A}Y\t44\t2\t3\t4\t3\t2\nY\t1\nZ\t1\t4\nZ\t0\t0\n", PLAN_A.len());
     let reached = session(input.as_bytes()).reached;
     assert_eq!((reached.times("Y", 0), reached.times("Y", 17), reached.times("Z", 0)), (1, 1, 2));
-    let ticks = [0, 13, 14, 15, 16].map(|number| reached.times(TICKS_OF_Z, number));
-    assert_eq!(ticks, [2, 0, 0, 1, 1]);
-    assert_eq!((reached.total(0), reached.times("W", 0)), (6, 0));
-    assert!(reached.missing().contains(&"13 by Z's ticks".to_string()));
+    let ticks = [0, 13, 14, 16].map(|number| reached.times(TICKS_OF_Z, number));
+    assert_eq!(ticks, [3, 0, 0, 1]);
+    assert_eq!((reached.total(0), reached.times("W", 0)), (7, 0));
+    assert!(reached.faults().contains(&"never reached: 13 by Z's ticks".to_string()));
+}
+
+#[test]
+fn cases_that_were_reached() {
+    let times = |command: &str| {
+        let lists = ["2\t3\t2\t3\t2", "2\t3\t1\t3\t2", "2\t0\t5\t3\t2", "3\t0\t1\t3\t2", "1"];
+        lists.map(|list| format!("{command}\t{list}\n")).concat()
+    };
+    // Task 2 alone has a best time above 1: it is reported at its best, then before it.
+    let ticks = "S\nT\t1\nT\t2\nT\t4\nS\nT\t1\nT\t4\nT\t4\nZ\t1\t2\t12\nZ\t1\t8\t4\t4\n";
+    let input = format!("{}\n{PLAN_A}{}{}{ticks}", PLAN_A.len(), times("M"), times("Y\t44"));
+    let reached = session(input.as_bytes()).reached;
+    for command in ["M", "Y"] {
+        assert_eq!([0, 17, 18].map(|number| reached.times(command, number)), [2, 1, 2]);
+        for case in [TIME_BELOW_BEST, TIME_OF_0, TIME_ABOVE_WORST] {
+            assert_eq!(reached.times_of_case(command, case), 1);
+        }
+    }
+    for command in ["T", TICKS_OF_Z] {
+        assert_eq!(reached.times_of_case(command, EARLY_REPORT), 1);
+    }
+    let faults = reached.faults();
+    assert!(faults.contains(&"never reached: 13".to_string()));
+    assert!(!faults.iter().any(|fault| fault.contains("15")));
+}
+
+#[test]
+fn the_unused_number() {
+    let mut reached = Reached::default();
+    reached.note("T", 15);
+    assert!(reached.faults().contains(&"given: 15".to_string()));
 }

@@ -1,4 +1,4 @@
-//! P1 to P12 and the "Others" of document 01.
+//! P1 to P12 and the "Others" of document 01, with Job 1 of document 02.
 use rival::check::check;
 use rival::limits::*;
 use rival::plan::*;
@@ -117,14 +117,45 @@ fn p10_overrun() {
     refused(state, 0, no(16, 0));
 }
 
+/// Task 2 ends before its best time; task 3 still waits for task 1.
 #[test]
-fn p11_too_early() {
-    refused(after_p9(), 0b100, no(15, 2));
+fn p11_before_best() {
+    let (state, answer) = after_p9().tick(0b100);
+    assert_eq!(answer, Ok(0));
+    assert_eq!((state.instant, state.started, state.finished), (2, 3, 0b101));
+    assert_eq!((state.starts[2], state.finishes[2]), (1, 2));
 }
 
 #[test]
 fn p12_not_running() {
     refused(after_p9(), 0b1000, no(14, 3));
+}
+
+/// With task 0 finished, task 1 starts only at the new instant.
+#[test]
+fn not_yet_running() {
+    refused(begun(), 0b11, no(14, 1));
+}
+
+#[test]
+fn every_time_1() {
+    let (plan, constraint) = plan_a();
+    expect(simulate(&plan, &constraint, &[1; 5]).unwrap(), [0, 1, 1, 2, 2], 3);
+}
+
+/// The lowest task is the place, whichever end of the range its time is beyond.
+#[test]
+fn times_outside() {
+    let (plan, constraint) = plan_a();
+    let place = |times: [u32; 5]| match simulate(&plan, &constraint, &times) {
+        Err(Refusal { number: 18, place }) => Some(place),
+        _ => None,
+    };
+    assert_eq!(place([1, 1, 0, 1, 1]), Some(2));
+    assert_eq!(place([2, 3, 4, 3, 3]), Some(4));
+    assert_eq!(place([1, 0, 5, 1, 1]), Some(1));
+    assert_eq!(place([1, 4, 0, 1, 1]), Some(1));
+    assert_eq!(place([2, 3, 1, 3, 2]), None);
 }
 
 #[test]

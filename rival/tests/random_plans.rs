@@ -4,7 +4,7 @@ use rival::inputs::{allowed_times, some_report};
 use rival::limits::*;
 use rival::plan::*;
 use rival::random::Random;
-use rival::simulate::{bound, simulate, worst_times};
+use rival::simulate::{bound, simulate};
 use rival::state::{start, State};
 use rival::texts::sound_plan;
 
@@ -13,12 +13,10 @@ fn both_simulations_agree() {
     let mut random = Random::new(1);
     for _ in 0..1_000 {
         let (plan, constraint) = sound_plan(&mut random);
-        let mut times = [0; TASKS];
-        for (time, worst) in times.iter_mut().zip(worst_times(&plan, &constraint)) {
-            *time = worst;
-        }
-        let slow = bound(&plan, &constraint).unwrap();
-        assert_eq!(slow, rival::fast::run(&plan, &constraint, &times));
+        let times = allowed_times(&mut random, &plan, &constraint);
+        let slow = simulate(&plan, &constraint, &times);
+        assert!(slow.is_ok());
+        assert_eq!(slow, rival::fast::simulate(&plan, &constraint, &times));
     }
 }
 
@@ -75,6 +73,27 @@ fn ticks_are_the_journals() {
     }
 }
 
+/// No time is longer in the first run, so at every instant every task is at least as far in it.
+#[test]
+fn a_quicker_task_makes_nothing_later() {
+    let mut random = Random::new(5);
+    for _ in 0..1_000 {
+        let (plan, constraint) = sound_plan(&mut random);
+        let long = allowed_times(&mut random, &plan, &constraint);
+        let rarity = random.pick(&[1, 2, 8]);
+        let shorten = |&time: &u32| match random.once_in(rarity) {
+            true => random.from(1, time.into()) as u32,
+            false => time,
+        };
+        let short: Vec<u32> = long.iter().map(shorten).collect();
+        let first = simulate(&plan, &constraint, &short).unwrap();
+        let second = simulate(&plan, &constraint, &long).unwrap();
+        assert!((0..TASKS).all(|t| first.starts[t] <= second.starts[t]));
+        assert!((0..TASKS).all(|t| first.finishes[t] <= second.finishes[t]));
+        assert!(first.response <= second.response);
+    }
+}
+
 /// Every task is at least as far as in the run of worst times, and the run ends in time.
 #[test]
 fn no_run_is_later_than_the_bound() {
@@ -83,9 +102,11 @@ fn no_run_is_later_than_the_bound() {
         let (plan, constraint) = sound_plan(&mut random);
         let worst = bound(&plan, &constraint).unwrap();
         let (mut journal, _) = Journal::open(&plan, &constraint);
+        let rarity = random.pick(&[1, 2, 8]);
         for _ in 0..300 {
             let running = journal.tasks(Progress::Running);
-            let report = running.iter().fold(0, |set, t| set | (random.below(2) << t));
+            let ends = |set, t: &usize| set | u64::from(random.once_in(rarity)) << t;
+            let report = running.iter().fold(0, ends);
             let _ = journal.report(report);
             for t in 0..plan.tasks as usize {
                 let started = worst.starts[t] <= journal.instant;

@@ -1,7 +1,6 @@
 -- What the sets of tasks say of a task of an accepted order: its own position decides. Assumes nothing.
 use mathlib.Core.Path.{_≡_, refl, sym, ap, _∙_}
 use mathlib.Core.Bool.{Bool, true, _&&_, and-true, and-false}
-use mathlib.Core.List.{List}
 use Prim.Native.Nat.{ℕ, suc, _+_, _≤_, _<_}
 use native.Mathlib.Nat.{lt-of-lt-of-le}
 use native.Mathlib.Numerals.{add-one}
@@ -16,10 +15,10 @@ use Rattle.task_set.proofs.Truth.{by-test, same, and-left, and-right, and-both}
 use Rattle.task_set.proofs.Bounded.{any-elim, any-intro, count-cong}
 use Rattle.task_set.proofs.Members.{has-and}
 use Rattle.task_set.proofs.Tables.{getD-tabulate}
-use Rattle.plan.specs.Rules.{mostTypes, timeOf}
+use Rattle.plan.specs.Rules.{mostTypes}
 use Rattle.plan.proofs.Accepted.{Accepted}
-use Rattle.runs.specs.Running.{orZero, typeOf, isRunning, busy, best, worst}
-use Rattle.runs.proofs.Positions.{type-entry, best-entry, worst-entry}
+use Rattle.runs.specs.Running.{orZero, typeOf, isRunning, busy, worst}
+use Rattle.runs.proofs.Positions.{type-entry, worst-entry}
 use Rattle.live.specs.declared.State.{State}
 use Rattle.live.specs.States.{isStarted, notesOf}
 use Rattle.live.specs.Soundness.{startIn}
@@ -29,10 +28,7 @@ use Rattle.live.proofs.Standing.{taskAt, typeAt, has-tasks}
 use Rattle.live.proofs.StateBack.{started-notes, running-notes}
 
 module _ (s : State) (a : Accepted (s .plan) (s .constraint)) (few : s .started ≤ s .plan .tasks) where
-  -- the times of a task on its chosen type
-  abbrev bcet : ℕ → ℕ
-  bcet = best (s .plan) (s .constraint)
-
+  -- the worst time of a task on its chosen type
   abbrev wcet : ℕ → ℕ
   wcet = worst (s .plan) (s .constraint)
 
@@ -66,25 +62,21 @@ module _ (s : State) (a : Accepted (s .plan) (s .constraint)) (few : s .started 
     running-low =
         let x = running-position in rw (← x .2) (omega (arith, a .task (x .0) (lt-of-lt-of-le (x .1) few), a .few-tasks))
 
-    -- whether its best or worst time has come at the instant i
-    own-time : (times : List ℕ) (time : ℕ → ℕ) (i : ℕ)
-        → ((j : ℕ) → j < s .plan .tasks → time (taskAt s j) ≡ timeOf times (taskAt s j) (typeAt s j))
-        → has (reached times (s .starts) (s .constraint .order) (s .constraint .chosen) (s .started) i) t
-        ≡ leb (orZero (notesOf s .start t) + time t) i
-    own-time times time i h =
+    -- whether its worst time has come at the instant i
+    own-time : (i : ℕ)
+        → has (reached (s .plan .wcet) (s .starts) (s .constraint .order) (s .constraint .chosen) (s .started) i) t
+        ≡ leb (orZero (notesOf s .start t) + wcet t) i
+    own-time i =
         let x = running-position in
         rw (running-started, ← x .2)
         (has-own (s .started) _ (x .0) few (x .1)
-        ∙ ap (λ (z : ℕ). leb (startIn s (taskAt s (x .0)) + z) i) (sym (h (x .0) (lt-of-lt-of-le (x .1) few))))
+        ∙ ap (λ (z : ℕ). leb (startIn s (taskAt s (x .0)) + z) i) (sym (worst-entry a (x .0) (lt-of-lt-of-le (x .1) few))))
 
     pub spent-own : has (marksIn s .spent) t ≡ leb (startIn s t + wcet t) (s .instant)
-    spent-own = rw running-started at (own-time _ wcet (s .instant) (worst-entry a))
-
-    pub ripe-own : has (marksIn s .ripe) t ≡ leb (orZero (notesOf s .start t) + bcet t) (suc (s .instant))
-    ripe-own = rw (← add-one (s .instant)) (own-time _ bcet (s .instant + 1) (best-entry a))
+    spent-own = rw running-started at (own-time (s .instant))
 
     pub due-own : has (marksIn s .due) t ≡ leb (orZero (notesOf s .start t) + wcet t) (suc (s .instant))
-    due-own = rw (← add-one (s .instant)) (own-time _ wcet (s .instant + 1) (worst-entry a))
+    due-own = rw (← add-one (s .instant)) (own-time (s .instant + 1))
 
   -- the running users of a type, by the notes and by the sets
   pub busy-size : (k : ℕ) → k < mostTypes

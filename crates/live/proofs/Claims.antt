@@ -14,7 +14,7 @@ use Rattle.plan.specs.declared.Verdict.{Verdict}
 use Rattle.plan.specs.Refusals.{refused, unlessAt, firstRefusal, verdict}
 use Rattle.runs.specs.Running.{Notes, hasStarted, blank, opening, step, worst, timed, over}
 use Rattle.runs.specs.Progress.{stage, asFar}
-use Rattle.runs.specs.Journal.{Answer, idle, early, overdue, refusal, hear, newlyStarted, answer, openingAnswer, notesFrom}
+use Rattle.runs.specs.Journal.{Answer, idle, overdue, refusal, hear, newlyStarted, answer, openingAnswer, notesFrom}
 use Rattle.runs.specs.Journal.{answersFrom, journal, answers, acceptedCount}
 use Rattle.runs.proofs.Theorems as theorems
 use Rattle.live.specs.declared.Ticked.{Ticked}
@@ -44,8 +44,7 @@ unfolding refusal
 plain-refusal p c n report =
     plain-cond (over p n) 13 0 _ (omega arith)
     (plain-unless 14 width (idle n report) _ (omega arith)
-    (plain-unless 15 width (early p c n report) _ (omega arith)
-    (plain-unless 16 width (overdue p c n report) _ (omega arith) (λ e. refl))))
+    (plain-unless 16 width (overdue p c n report) _ (omega arith) (λ e. refl)))
 
 -- notes that stay start nothing
 nothing-new : (n : Notes) → newlyStarted n n ≡ 0

@@ -20,7 +20,7 @@ use Rattle.plan.specs.Refusals.{verdict}
 use Rattle.plan.proofs.Accepted.{Accepted, accepted}
 use Rattle.dispatch_theory.proofs.Sums.{sum-le}
 use Rattle.runs.specs.Running.{Notes, orZero, given, hasStarted, hasFinished, busy, worst, Allowed, timed, over, response, bound}
-use Rattle.runs.proofs.Positions.{position, task-times, allowed-lasts, allowed-most}
+use Rattle.runs.proofs.Positions.{position, worst-short, allowed-lasts, allowed-most}
 use Rattle.runs.proofs.Orders.{startsOf}
 use Rattle.runs.proofs.Closed.{once, timed-closed}
 use Rattle.runs.proofs.Theorems.{first-over, within-bound, bound-sum, units-enough as runs-enough}
@@ -76,7 +76,7 @@ module _ (p : Plan) (c : Constraint) (ok : verdict p c .number ≡ 0) (d : ℕ �
 
   bound-low : bound p c ≤ lastInstant
   bound-low =
-      let most = sum-le (p .tasks) (worst p c) longestTime (λ t l. task-times a t l .short) in
+      let most = sum-le (p .tasks) (worst p c) longestTime (worst-short a) in
       omega (arith, bound-sum p c ok, a .few-tasks)
 
   module _ (st : Stands p c n) where

@@ -5,19 +5,18 @@ use mathlib.Core.List.{List}
 use Prim.Native.Nat.{ℕ, _+_, _^_, _≤_, _<_}
 use native.Mathlib.Nat.{lt-of-le-of-lt}
 use native.Mathlib.Omega.{arith}
-use borrow.Author.Tests.{eqb-true, ne-eqb, eq-eqb}
-use lib.Bits.{bitAnd, and-le-l}
-use lib.Dec.{eqb}
+use borrow.Author.Tests.{ne-eqb, eq-eqb}
+use lib.Bits.{and-le-l}
 use Rattle.task_set.specs.Bounded.{all, tabulate}
 use Rattle.task_set.specs.Sets.{width, has, without}
 use Rattle.task_set.proofs.Truth.{by-test}
-use Rattle.task_set.proofs.Members.{has-none, without-small}
+use Rattle.task_set.proofs.Members.{without-small}
 use Rattle.plan.specs.declared.Verdict.{Verdict}
 use Rattle.plan.specs.Rules.{mostTasks}
-use Rattle.plan.specs.Refusals.{refused, noRefusal, unlessAt, firstRefusal}
+use Rattle.plan.specs.Refusals.{refused, noRefusal, firstRefusal}
 use Rattle.plan.proofs.Accepted.{Accepted, accepted}
 use Rattle.runs.specs.Running.{Notes, entries, dispatch, step, over}
-use Rattle.runs.specs.Journal.{idle, early, overdue, refusal, newlyStarted}
+use Rattle.runs.specs.Journal.{idle, refusal, newlyStarted}
 use Rattle.runs.proofs.Sound.{report-timely}
 use Rattle.live.specs.declared.State.{State}
 use Rattle.live.specs.States.{notesOf}
@@ -29,7 +28,7 @@ use Rattle.live.specs.Steps.{runningOf, usersOf, unlessEmpty, verdictBy,
 use Rattle.live.proofs.Marking.{marksIn}
 use Rattle.live.proofs.Standing.{tasks-small}
 use Rattle.live.proofs.StateBack.{over-notes}
-use Rattle.live.proofs.Reports.{unless-set, idle-set, early-set, overdue-set}
+use Rattle.live.proofs.Reports.{unless-set, idle-set, overdue-set}
 use Rattle.live.proofs.ReportedStates.{nextState, Shaped, sound-checked, sound-few, sound-tidy, reported-notes}
 
 module _ (s : State) (report : ℕ) where
@@ -49,36 +48,16 @@ module _ (s : State) (report : ℕ) where
       few : s .started ≤ s .plan .tasks
       few = sound-few s sound
 
-      -- the faulty sets of 14, 15 and 16
-      abbrev idles : ℕ
-      idles = without report (runningOf s)
-
-      abbrev earlies : ℕ
-      earlies = without report (marksIn s .ripe)
-
-      abbrev overdues : ℕ
-      overdues = without (bitAnd (marksIn s .due) (runningOf s)) report
-
-      -- what follows 14, where no reported task is idle
-      after-14 : idles ≡ 0
-          → unlessAt 15 width (early (s .plan) (s .constraint) (notesOf s) report)
-          (unlessAt 16 width (overdue (s .plan) (s .constraint) (notesOf s) report) noRefusal)
-          ≡ unlessEmpty 15 earlies (unlessEmpty 16 overdues noRefusal)
-      after-14 e =
-          unless-set 15 _ _ (without-small width report _ small)
-          (λ t l. early-set s a few report t l (sym (idle-set s report t l) ∙ ap (λ (x : ℕ). has x t) e ∙ has-none t))
-          ∙ ap (unlessEmpty 15 earlies)
-          (unless-set 16 _ _ (without-small width _ report (lt-of-le-of-lt (and-le-l _ _) (tasks-small _ _ _)))
-          (overdue-set s a few report))
-
-      -- 13 to 16, by the sets that the tick computes
+      -- 13, 14 and 16, by the sets that the tick computes
       pub verdict-by : {m : Marks} {done : Bool} → m ≡ marksIn s → done ≡ all (s .plan .tasks) (has (s .finished))
           → verdictBy m done (s .finished) report ≡ tickVerdict s report
       unfolding verdictBy refusal
       verdict-by e f =
+          let due = lt-of-le-of-lt (and-le-l _ _) (tasks-small _ _ _) in
           rw (e, f, ← over-notes s)
           (ap (cond (over (s .plan) (notesOf s)) (refused 13 0))
-          (by-test (eqb idles 0) (λ q. ap (unlessEmpty 14 idles) (sym (after-14 (eqb-true idles 0 q)))) (λ q. rw q)
+          (ap (unlessEmpty 14 (without report (runningOf s)))
+          (sym (unless-set 16 _ noRefusal (without-small width _ report due) (overdue-set s a few report)))
           ∙ sym (unless-set 14 _ _ (without-small width report _ small) (idle-set s report)))
           ∙ sym sound-verdict)
 

@@ -38,10 +38,10 @@ firstTasks order n = tasksAt order n (λ j. true)
 abbrev pub typeUsers : List ℕ → List ℕ → ℕ → ℕ → ℕ
 typeUsers order chosen n k = tasksAt order n (λ j. eqb (entryAt chosen j) k)
 
--- those whose start and time, best or worst, come to the instant i at the latest
+-- those whose start and worst time come to the instant i at the latest
 abbrev pub reached : List ℕ → List ℕ → List ℕ → List ℕ → ℕ → ℕ → ℕ
-reached times starts order chosen n i =
-    tasksAt order n (λ j. leb (getD starts (entryAt order j) 0 + timeOf times (entryAt order j) (entryAt chosen j)) i)
+reached wcet starts order chosen n i =
+    tasksAt order n (λ j. leb (getD starts (entryAt order j) 0 + timeOf wcet (entryAt order j) (entryAt chosen j)) i)
 
 -- the start and the finish of a task that has started or not, finished or not, at an instant: the clauses of 12 about them
 abbrev pub timesFit : Bool → Bool → ℕ → ℕ → ℕ → Bool
@@ -61,12 +61,11 @@ unfoldable pub enoughFor : List ℕ → List ℕ → ℕ → ℕ → Bool
 enoughFor units users running k = leb (size (bitAnd (getD users k 0) running)) (getD units k 0)
 
 -- what one pass over the positions finds, of which the first n have started
-abbrev pub marksOf : List ℕ → List ℕ → List ℕ → List ℕ → List ℕ → ℕ → ℕ → ℕ → Marks
-marksOf bcet wcet starts order chosen len n instant =
+abbrev pub marksOf : List ℕ → List ℕ → List ℕ → List ℕ → ℕ → ℕ → ℕ → Marks
+marksOf wcet starts order chosen len n instant =
     record {
       started = firstTasks order n;
       spent = reached wcet starts order chosen n instant;
-      ripe = reached bcet starts order chosen n (instant + 1);
       due = reached wcet starts order chosen n (instant + 1);
       users = tabulate mostTypes (typeUsers order chosen len);
     }
@@ -82,15 +81,14 @@ soundBy units users starts finishes m over finished instant =
 abbrev pub unlessEmpty : ℕ → ℕ → Verdict → Verdict
 unlessEmpty number faulty rest = cond (not (eqb faulty 0)) (refused number (lowest faulty)) rest
 
--- 13 to 16, by sets
+-- 13, 14 and 16, by sets
 unfoldable pub verdictBy : Marks → Bool → ℕ → ℕ → Verdict
 verdictBy m over finished report =
     let running = without (m .started) finished in
     cond over (refused 13 0)
     (unlessEmpty 14 (without report running)
-    (unlessEmpty 15 (without report (m .ripe))
     (unlessEmpty 16 (without (bitAnd (m .due) running) report)
-    noRefusal)))
+    noRefusal))
 
 -- a state that is handed over in parts
 abbrev pub stateFrom : Plan → Constraint → ℕ → ℕ → ℕ → List ℕ → List ℕ → State

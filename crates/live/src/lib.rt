@@ -68,7 +68,7 @@ pub fn start(p: Plan, c: Constraint) -> Ticked
     }
     let len = c.len;
     let zeros = [0; plan::MOST_TASKS];
-    let m = sets::mark_positions(&p.bcet, &p.wcet, &zeros, &c.order, &c.chosen, len, 0, 0);
+    let m = sets::mark_positions(&p.wcet, &zeros, &c.order, &c.chosen, len, 0, 0);
     let users = m.users;
     walk::walk_on(p, c, users, 0, 0, 0, 0, zeros, zeros)
 }

@@ -25,19 +25,17 @@ fn inserted_if(hit: bool, s: u64, t: usize) -> u64
     s
 }
 
-// The started tasks; those whose worst time has come; those whose best and whose worst time comes at the next instant; and
-// the tasks of the order by their chosen type.
+// The started tasks; those whose worst time has come; those whose worst time comes at the next instant; and the tasks of
+// the order by their chosen type.
 pub struct Marks {
     pub started: u64,
     pub spent: u64,
-    pub ripe: u64,
     pub due: u64,
     pub users: [u64; MOST_TYPES],
 }
 
 // One pass over the positions, of which the first n have started.
 pub fn mark_positions<'a>(
-    bcet: &'a [u32; MOST_PAIRS],
     wcet: &'a [u32; MOST_PAIRS],
     starts: &'a [u32; MOST_TASKS],
     order: &'a [usize; MOST_TASKS],
@@ -47,13 +45,12 @@ pub fn mark_positions<'a>(
     instant: u32,
 ) -> Marks
     requires { ⌜ Positions (now order) (now chosen) len × (n ≤ len) ⌝ }
-    ensures { λ r. ⌜ r ≡ marksOf (now (bcet .entry)) (now (wcet .entry)) (now (starts .entry))
-        (now (order .entry)) (now (chosen .entry)) len n instant ⌝ }
+    ensures { λ r. ⌜ r ≡ marksOf (now (wcet .entry)) (now (starts .entry)) (now (order .entry)) (now (chosen .entry))
+        len n instant ⌝ }
 {
     let at = wide(instant);
     let mut started: u64 = 0;
     let mut spent: u64 = 0;
-    let mut ripe: u64 = 0;
     let mut due: u64 = 0;
     let mut users = [0u64; MOST_TYPES];
     let mut i = 0;
@@ -63,12 +60,9 @@ pub fn mark_positions<'a>(
         let s = users[k];
         users[k] = task_set::inserted(s, t);
         if i < n {
-            let start = wide(starts[t]);
-            let best = start + wide(plan::time_of(bcet, t, k));
-            let worst = start + wide(plan::time_of(wcet, t, k));
+            let worst = wide(starts[t]) + wide(plan::time_of(wcet, t, k));
             started = task_set::inserted(started, t);
             spent = inserted_if(worst <= at, spent, t);
-            ripe = inserted_if(best <= at + 1, ripe, t);
             due = inserted_if(worst <= at + 1, due, t);
         }
         i += 1;
@@ -76,7 +70,6 @@ pub fn mark_positions<'a>(
     Marks {
         started,
         spent,
-        ripe,
         due,
         users,
     }

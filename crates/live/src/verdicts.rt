@@ -1,4 +1,4 @@
-// What a tick finds: a refusal (document 01, 12 to 16, in their order), or what the walk needs to go on.
+// What a tick finds: a refusal (12, 13, 14 and 16, in this order), or what the walk needs to go on.
 ghost use mathlib.Core.Path.{_≡_};
 ghost use mathlib.Core.Bool.{cond};
 ghost use Rattle.plan.specs.Refusals.{refused as refusedBy};
@@ -43,18 +43,16 @@ fn unless_empty(number: u32, faulty: u64, rest: Verdict) -> Verdict
     unless(faulty != 0, number, place, rest)
 }
 
-// 13 to 16, of a sound state.
+// 13, 14 and 16, of a sound state.
 fn report_verdict(m: Marks, over: bool, finished: u64, report: u64) -> Verdict
     ensures { λ r. ⌜ r ≡ verdictBy m over finished report ⌝ }
 {
     let running = task_set::difference(m.started, finished);
     let idle = task_set::difference(report, running);
-    let early = task_set::difference(report, m.ripe);
     let overdue = task_set::difference(m.due & running, report);
     let none = refused(0, 0);
     let from_16 = unless_empty(16, overdue, none);
-    let from_15 = unless_empty(15, early, from_16);
-    let from_14 = unless_empty(14, idle, from_15);
+    let from_14 = unless_empty(14, idle, from_16);
     unless(over, 13, 0, from_14)
 }
 
@@ -85,16 +83,7 @@ pub fn judge(s: State, report: u64) -> Judged
     }
     let instant = s.instant;
     let finished = s.finished;
-    let m = mark_positions(
-        &p.bcet,
-        &p.wcet,
-        &starts,
-        &c.order,
-        &c.chosen,
-        len,
-        n,
-        instant,
-    );
+    let m = mark_positions(&p.wcet, &starts, &c.order, &c.chosen, len, n, instant);
     let users = m.users;
     let over = is_over(tasks, finished);
     if !is_sound(

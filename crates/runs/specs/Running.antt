@@ -32,19 +32,13 @@ typeIn (e ∷ rest) t = cond (eqb (e .task) t) (e .type) (typeIn rest t)
 unfoldable pub typeOf : Constraint → ℕ → ℕ
 typeOf c t = typeIn (entries c) t
 
--- the best and the worst time of a task on its chosen type
-unfoldable pub best : Plan → Constraint → ℕ → ℕ
-best p c t = timeOf (p .bcet) t (typeOf c t)
-
+-- the worst time of a task on its chosen type
 unfoldable pub worst : Plan → Constraint → ℕ → ℕ
 worst p c t = timeOf (p .wcet) t (typeOf c t)
 
--- the times that a task may take: "within the plan's best and worst for its chosen type" (demand 3)
-abbrev pub leastTime : Plan → Constraint → ℕ → ℕ
-leastTime p c t = best p c t
-
+-- the times that a task may take: "all times from 1 to worst" (document 02, 1)
 unfoldable pub allowed : Plan → Constraint → ℕ → ℕ → Bool
-allowed p c t x = between (leastTime p c t) x (worst p c t)
+allowed p c t x = between 1 x (worst p c t)
 
 abbrev pub Allowed : Plan → Constraint → (ℕ → ℕ) → Type 0
 Allowed p c d = (t : ℕ) → t < p .tasks → allowed p c t (d t) ≡ true

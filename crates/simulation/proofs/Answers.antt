@@ -20,7 +20,7 @@ use Rattle.plan.specs.Steps.{Positions}
 use Rattle.plan.proofs.Accepted.{Accepted, accepted, positions}
 use Rattle.dispatch_theory.specs.Sums.{sum}
 use Rattle.runs.specs.Running.{typeOf, worst, allowed, Allowed, bound}
-use Rattle.runs.proofs.Positions.{taskAt, type-entry, best-entry, worst-entry, task-times, allowed-most, allowed-lasts, worst-allowed}
+use Rattle.runs.proofs.Positions.{taskAt, type-entry, worst-entry, worst-short, allowed-most, allowed-lasts, worst-allowed}
 use Rattle.runs.proofs.Theorems.{bound-sum}
 use Rattle.simulation.specs.declared.Simulation.{Simulation}
 use Rattle.simulation.specs.Simulated.{timeIn, outside, timesVerdict, simulationVerdict, ran, notRun, simulated, worstCase}
@@ -41,7 +41,7 @@ module _ (p : Plan) (c : Constraint) (e : verdict p c .number ≡ 0) where
         checked = e;
         enough = l;
         some = λ t m. rw (h t m) (allowed-lasts a d w t m);
-        short = λ t m. rw (h t m) (le-trans (allowed-most a d w t m) (task-times a t m .short));
+        short = λ t m. rw (h t m) (le-trans (allowed-most a d w t m) (worst-short a t m));
       }
 
   -- ---- the bound
@@ -69,10 +69,10 @@ module _ (p : Plan) (c : Constraint) (e : verdict p c .number ≡ 0) where
     says-17 f = rw (e, ne-eqb (length times) (p .tasks) f) refl
 
     module _ (counted : length times ≡ p .tasks) {place : ℕ}
-        (o : LowestOf (p .tasks) (c .order) (outsideAt (p .bcet) (p .wcet) (c .order) (c .chosen) times) (p .tasks) place) where
+        (o : LowestOf (p .tasks) (c .order) (outsideAt (p .wcet) (c .order) (c .chosen) times) (p .tasks) place) where
       place-is : place ≡ first (p .tasks) (outside p c times)
       unfolding outside outsideAt allowed
-      place-is = lowest-all a (outside p c times) (λ i l. rw (best-entry a i l, worst-entry a i l) refl) o
+      place-is = lowest-all a (outside p c times) (λ i l. rw (worst-entry a i l) refl) o
 
       pub says-18 : place < p .tasks → notRun (refused 18 place) ≡ simulated p c times
       unfolding simulated simulationVerdict firstRefusal timesVerdict unlessAt

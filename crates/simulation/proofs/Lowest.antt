@@ -1,5 +1,5 @@
 -- The lowest task that fails, as a loop over the positions finds it. Assumes nothing.
-use mathlib.Core.Path.{_≡_, refl, sym, ap, ap₂, _∙_, subst}
+use mathlib.Core.Path.{_≡_, refl, sym, ap, _∙_, subst}
 use mathlib.Core.Bool.{Bool, true, false, _&&_, not, and-true}
 use mathlib.Core.List.{List}
 use Prim.Native.Nat.{ℕ, _+_, _<_}
@@ -19,13 +19,12 @@ use Rattle.plan.proofs.Accepted.{Accepted}
 use Rattle.simulation.specs.Simulated.{timeIn}
 use Rattle.simulation.specs.Steps.{outsideAt, LowestOf}
 
--- a position fails by the times that are read
-pub outside-by : (bcet wcet order chosen times : List ℕ) (i : ℕ) {best worst : ℕ}
-    → best ≡ timeOf bcet (entryAt order i) (entryAt chosen i)
+-- a position fails by the worst time that is read
+pub outside-by : (wcet order chosen times : List ℕ) (i : ℕ) {worst : ℕ}
     → worst ≡ timeOf wcet (entryAt order i) (entryAt chosen i)
-    → not (between best (timeIn times (entryAt order i)) worst) ≡ outsideAt bcet wcet order chosen times i
+    → not (between 1 (timeIn times (entryAt order i)) worst) ≡ outsideAt wcet order chosen times i
 unfolding outsideAt
-outside-by bcet wcet order chosen times i eb ew = ap₂ (λ (x y : ℕ). not (between x (timeIn times (entryAt order i)) y)) eb ew
+outside-by wcet order chosen times i = ap (λ (x : ℕ). not (between 1 (timeIn times (entryAt order i)) x))
 
 module _ {n : ℕ} {order : List ℕ} {fails : ℕ → Bool} where
   pub lowest-none : LowestOf n order fails 0 n

@@ -18,7 +18,7 @@ use Rattle.simulation.specs.declared.Simulation.{Simulation}
 abbrev pub timeIn : List ℕ → ℕ → ℕ
 timeIn times t = getD times t 0
 
--- 18: "a time outside best to worst of the chosen type", one that the task may not take
+-- 18: "a time outside 1 to worst" of the chosen type (document 02, 1), one that the task may not take
 unfoldable pub outside : Plan → Constraint → List ℕ → ℕ → Bool
 outside p c times t = not (allowed p c t (timeIn times t))
 

@@ -20,12 +20,11 @@ pub record ChosenTimes (times order chosen : List ℕ) (n : ℕ) (byTask : List 
   pub whole : length byTask ≡ mostTasks
   pub at-position : (i : ℕ) → i < n → timeIn byTask (entryAt order i) ≡ timeOf times (entryAt order i) (entryAt chosen i)
 
--- the time of the task at position i is not between the best and the worst of its chosen type
-unfoldable pub outsideAt : List ℕ → List ℕ → List ℕ → List ℕ → List ℕ → ℕ → Bool
-outsideAt bcet wcet order chosen times i =
+-- the time of the task at position i is not from 1 to the worst of its chosen type
+unfoldable pub outsideAt : List ℕ → List ℕ → List ℕ → List ℕ → ℕ → Bool
+outsideAt wcet order chosen times i =
     let t = entryAt order i in
-    let ty = entryAt chosen i in
-    not (between (timeOf bcet t ty) (timeIn times t) (timeOf wcet t ty))
+    not (between 1 (timeIn times t) (timeOf wcet t (entryAt chosen i)))
 
 -- r is the lowest of n tasks that stands at one of the first k positions and fails, and n where there is none
 pub record LowestOf (n : ℕ) (order : List ℕ) (fails : ℕ → Bool) (k r : ℕ) : Type 0 where

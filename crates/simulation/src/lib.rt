@@ -48,7 +48,7 @@ pub fn simulate(p: Plan, c: Constraint, times: &[u32]) -> Simulation
     if times.len() != tasks {
         return not_run(17, times.len());
     }
-    let outside = first_outside(&p.bcet, &p.wcet, &c.order, &c.chosen, times, tasks);
+    let outside = first_outside(&p.wcet, &c.order, &c.chosen, times, tasks);
     if outside < tasks {
         return not_run(18, outside);
     }

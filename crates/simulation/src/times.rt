@@ -6,7 +6,7 @@ ghost use Rattle.simulation.specs.Steps.{ChosenTimes, LowestOf, outsideA
 use plan::MOST_PAIRS;
 use plan::MOST_TASKS;
 
-// The best or the worst time of each task on its chosen type, by task number.
+// The time listed for each task on its chosen type, by task number.
 pub fn chosen_times<'a>(
     times: &'a [u32; MOST_PAIRS],
     order: &'a [usize; MOST_TASKS],
@@ -27,10 +27,8 @@ pub fn chosen_times<'a>(
     by_task
 }
 
-// 18: the lowest task whose time is not between the best and the worst of its chosen type, and the number of tasks
-// where there is none.
+// 18: the lowest task whose time is not from 1 to the worst of its chosen type, and the number of tasks where there is none.
 pub fn first_outside<'a>(
-    bcet: &'a [u32; MOST_PAIRS],
     wcet: &'a [u32; MOST_PAIRS],
     order: &'a [usize; MOST_TASKS],
     chosen: &'a [usize; MOST_TASKS],
@@ -39,8 +37,7 @@ pub fn first_outside<'a>(
 ) -> usize
     requires { ⌜ Positions (now order) (now chosen) tasks × (length (now times) ≡ tasks) ⌝ }
     ensures { λ r. ⌜ LowestOf tasks (now (order .entry))
-        (outsideAt (now (bcet .entry)) (now (wcet .entry)) (now (order .entry)) (now (chosen .entry)) (now (times .entry)))
-        tasks r ⌝ }
+        (outsideAt (now (wcet .entry)) (now (order .entry)) (now (chosen .entry)) (now (times .entry))) tasks r ⌝ }
 {
     let mut lowest = tasks;
     let mut k = 0;
@@ -48,7 +45,7 @@ pub fn first_outside<'a>(
         let t = order[k];
         let ty = chosen[k];
         let x = times[t];
-        let within = (plan::time_of(bcet, t, ty) <= x) & (x <= plan::time_of(wcet, t, ty));
+        let within = (1 <= x) & (x <= plan::time_of(wcet, t, ty));
         if !within & (t < lowest) {
             lowest = t;
         }

@@ -19,7 +19,7 @@ use Rattle.dispatch_theory.specs.Sums.{sum}
 use Rattle.dispatch_theory.proofs.Sums.{sum-mono, sum-le}
 use Rattle.dispatch_theory.proofs.Greedy.{bound}
 use Rattle.runs.specs.Running.{worst, Allowed, orZero, horizon, ended, response}
-use Rattle.runs.proofs.Positions.{taskAt, typeAt, position-entry, task-times, by-position, allowed-lasts, allowed-most, worst-allowed}
+use Rattle.runs.proofs.Positions.{taskAt, typeAt, position-entry, worst-short, by-position, allowed-lasts, allowed-most, worst-allowed}
 use Rattle.runs.proofs.Orders.{durations, startsOf, lawful, greedy}
 use Rattle.runs.proofs.Response.{ended-start, ended-finish, response-sum}
 use Rattle.simulation.specs.Simulated.{timeIn, outside, timesVerdict, ran, simulated, worstCase}
@@ -48,7 +48,7 @@ whole = refl
 
 module _ {p : Plan} {c : Constraint} (a : Accepted p c) (d : ℕ → ℕ) (w : Allowed p c d) where
   short : (t : ℕ) → t < p .tasks → d t ≤ longestTime
-  short t l = le-trans (allowed-most a d w t l) (task-times a t l .short)
+  short t l = le-trans (allowed-most a d w t l) (worst-short a t l)
 
   -- position i starts after at most i times
   start-by : (i : ℕ) → i < p .tasks → startsOf p c d i ≤ i * longestTime

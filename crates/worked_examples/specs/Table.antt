@@ -1,5 +1,5 @@
--- The worked examples P1 to P12 (document 01, "Runs on plan A") as rows of numbers, computed from the definitions.
--- Assumes nothing.
+-- The worked examples P1 to P12 (document 01, "Runs on plan A"; P11 as document 02, 1 has it) and some more, as rows of
+-- numbers, computed from the definitions. Assumes nothing.
 use mathlib.Core.Bool.{cond}
 use mathlib.Core.Path.{_≡_}
 use mathlib.Core.List.{List, [], _∷_, _++_}
@@ -8,9 +8,12 @@ use lib.Dec.{eqb}
 use Rattle.task_set.specs.Bounded.{tabulate}
 use Rattle.plan.specs.declared.Plan.{Plan}
 use Rattle.plan.specs.declared.Constraint.{Constraint}
+use Rattle.plan.specs.declared.Verdict.{Verdict}
+use Rattle.plan.specs.Rules.{timeOf}
 use Rattle.plan.specs.Refusals.{noPlan, noConstraint, verdict}
-use Rattle.runs.specs.Running.{best, worst, orZero, ended, response}
-use Rattle.runs.specs.Journal.{Answer, openingAnswer, answers}
+use Rattle.runs.specs.Running.{typeOf, worst, orZero, ended, response}
+use Rattle.runs.specs.Journal.{Answer, openingAnswer, journal, answers}
+use Rattle.simulation.specs.Simulated.{simulationVerdict}
 use Rattle.worked_examples.specs.PlanA.{planWith, planA, fiveEntries, orderA, orderB}
 
 -- the starts by task number, and the response
@@ -18,8 +21,15 @@ unfoldable pub run : Plan → Constraint → (ℕ → ℕ) → List ℕ
 run p c d = tabulate 5 (λ t. orZero (ended p c d .start t)) ++ response p c d ∷ []
 
 -- number and place
+abbrev pub said : Verdict → List ℕ
+said v = v .number ∷ v .place ∷ []
+
 unfoldable pub check : Plan → Constraint → List ℕ
-check p c = verdict p c .number ∷ verdict p c .place ∷ []
+check p c = said (verdict p c)
+
+-- what the simulation says to the times listed
+unfoldable pub simulate : List ℕ → List ℕ
+simulate times = said (simulationVerdict planA orderA times)
 
 -- number, place and started set of the opening and of each report
 abbrev pub numbers : Answer → List ℕ
@@ -32,7 +42,11 @@ listed (a ∷ rest) = numbers a ++ listed rest
 unfoldable pub ticks : List ℕ → List ℕ
 ticks reports = numbers (openingAnswer planA orderA) ++ listed (answers planA orderA reports)
 
--- ---- the table: what is computed, and what document 01 says that it is
+-- the finishes that are noted after the reports, by task number
+unfoldable pub finishes : List ℕ → List ℕ
+finishes reports = tabulate 5 (λ t. orZero (journal planA orderA reports .finish t))
+
+-- ---- the table: what is computed, and what the documents say that it is
 
 pub record Row : Type 0 where
   pub computed : List ℕ
@@ -44,7 +58,7 @@ row computed stated = record { computed = computed; stated = stated }
 unfoldable pub table : List Row
 table =
     row (run planA orderA (worst planA orderA)) (0 ∷ 2 ∷ 2 ∷ 5 ∷ 6 ∷ 8 ∷ [])
-    ∷ row (run planA orderA (best planA orderA)) (0 ∷ 1 ∷ 1 ∷ 2 ∷ 3 ∷ 4 ∷ [])
+    ∷ row (run planA orderA (λ t. timeOf (planA .bcet) t (typeOf orderA t))) (0 ∷ 1 ∷ 1 ∷ 2 ∷ 3 ∷ 4 ∷ [])
     ∷ row (run planA orderA (λ t. cond (eqb t 2) 2 (worst planA orderA t))) (0 ∷ 2 ∷ 2 ∷ 5 ∷ 5 ∷ 8 ∷ [])
     ∷ row (run planA orderB (worst planA orderB)) (0 ∷ 2 ∷ 5 ∷ 5 ∷ 9 ∷ 11 ∷ [])
     ∷ row (run (planWith 1) orderA (worst (planWith 1) orderA)) (0 ∷ 2 ∷ 2 ∷ 6 ∷ 6 ∷ 9 ∷ [])
@@ -53,10 +67,11 @@ table =
     ∷ row (check planA (fiveEntries (0 ∷ 1 ∷ 2 ∷ 3 ∷ 3 ∷ []) (0 ∷ 0 ∷ 1 ∷ 1 ∷ 1 ∷ []))) (9 ∷ 4 ∷ [])
     ∷ row (ticks (1 ∷ [])) (0 ∷ 0 ∷ 1 ∷ 0 ∷ 0 ∷ 6 ∷ [])
     ∷ row (ticks (0 ∷ 0 ∷ [])) (0 ∷ 0 ∷ 1 ∷ 0 ∷ 0 ∷ 0 ∷ 16 ∷ 0 ∷ 0 ∷ [])
-    ∷ row (ticks (1 ∷ 4 ∷ [])) (0 ∷ 0 ∷ 1 ∷ 0 ∷ 0 ∷ 6 ∷ 15 ∷ 2 ∷ 0 ∷ [])
+    ∷ row (ticks (1 ∷ 4 ∷ []) ++ finishes (1 ∷ 4 ∷ [])) (0 ∷ 0 ∷ 1 ∷ 0 ∷ 0 ∷ 6 ∷ 0 ∷ 0 ∷ 0 ∷ 1 ∷ 0 ∷ 2 ∷ 0 ∷ 0 ∷ [])
     ∷ row (ticks (1 ∷ 8 ∷ [])) (0 ∷ 0 ∷ 1 ∷ 0 ∷ 0 ∷ 6 ∷ 14 ∷ 3 ∷ 0 ∷ [])
-    ∷ row (check planA orderA) (0 ∷ 0 ∷ [])
-    ∷ row (check noPlan noConstraint) (8 ∷ 0 ∷ [])
+    ∷ row (run planA orderA (λ t. 1)) (0 ∷ 1 ∷ 1 ∷ 2 ∷ 2 ∷ 3 ∷ [])
+    ∷ row (simulate (1 ∷ 1 ∷ 1 ∷ 1 ∷ 1 ∷ []) ++ simulate (1 ∷ 1 ∷ 0 ∷ 1 ∷ 1 ∷ [])) (0 ∷ 0 ∷ 18 ∷ 2 ∷ [])
+    ∷ row (check planA orderA ++ check noPlan noConstraint) (0 ∷ 0 ∷ 8 ∷ 0 ∷ [])
     ∷ []
 
 -- every row is as stated

@@ -6,5 +6,5 @@ mod tick;
 
 pub use check::check;
 pub use read::read;
-pub use simulate::{run, simulate};
+pub use simulate::simulate;
 pub use tick::{replay, start, tick};

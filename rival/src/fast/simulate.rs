@@ -26,11 +26,10 @@ fn in_order(constraint: &Constraint) -> impl Iterator<Item = (usize, usize)> + '
     positions.map(|(&task, &kind)| (task as usize % TASKS, kind as usize % TYPES))
 }
 
-/// The tasks whose time is not from best to worst.
+/// The tasks whose time is not from 1 to worst.
 fn outside(plan: &Plan, constraint: &Constraint, times: &[u32; TASKS]) -> u64 {
     in_order(constraint).fold(0, |set, (task, kind)| {
-        let at = pair(task, kind);
-        let outside = (times[task] < plan.best[at]) | (times[task] > plan.worst[at]);
+        let outside = (times[task] == 0) | (times[task] > plan.worst[pair(task, kind)]);
         set | u64::from(outside) << task
     })
 }
@@ -38,7 +37,7 @@ fn outside(plan: &Plan, constraint: &Constraint, times: &[u32; TASKS]) -> u64 {
 /// The run with one time for each task. Only for accepted plans and constraints.
 /// No task starts before the one ahead of it in the order, so each start is the
 /// greatest of that start, the predecessors' finishes and the first free unit.
-pub fn run(plan: &Plan, constraint: &Constraint, times: &[u32; TASKS]) -> Times {
+fn run(plan: &Plan, constraint: &Constraint, times: &[u32; TASKS]) -> Times {
     let mut result = Times::zero();
     let mut free_at = [[0u32; UNITS]; TYPES];
     let mut now = 0;

@@ -10,8 +10,6 @@ struct Look {
     running: u64,
     /// The running tasks by chosen type.
     users: [u64; TYPES],
-    /// Running tasks that at the new instant have run less than their best.
-    early: u64,
     /// Running tasks that at the new instant have run their worst.
     late: u64,
 }
@@ -66,9 +64,7 @@ fn advance(state: &mut State, report: u64) -> Result<u64, Refusal> {
     if state.finished == first_tasks(state.plan.tasks) {
         return refuse(13, 0);
     }
-    let (not_running, early, late) =
-        (report & !look.running, report & look.early, look.late & !report);
-    let faults = [(14, not_running), (15, early), (16, late)];
+    let faults = [(14, report & !look.running), (16, look.late & !report)];
     if let Some((number, faulty)) = faults.into_iter().find(|(_, faulty)| *faulty != 0) {
         return refuse(number, faulty.trailing_zeros().into());
     }
@@ -133,13 +129,12 @@ fn look_over_started(state: &State) -> Option<(Look, u64)> {
             }
             continue;
         }
-        let (ran, at) = (*instant + 1 - start, pair(task, kind));
-        if finish != 0 || ran > plan.worst[at] {
+        let (ran, worst) = (*instant + 1 - start, plan.worst[pair(task, kind)]);
+        if finish != 0 || ran > worst {
             return None;
         }
         look.users[kind] |= 1 << task;
-        look.early |= u64::from(ran < plan.best[at]) << task;
-        look.late |= u64::from(ran == plan.worst[at]) << task;
+        look.late |= u64::from(ran == worst) << task;
     }
     look.running = started & !state.finished;
     Some((look, started))

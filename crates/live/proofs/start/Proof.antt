@@ -20,16 +20,16 @@ returns c =
 
 walk-on-requires : tie.Need-walk-on-requires
 walk-on-requires c κs =
-    fresh-walkable _ _ (taken (c .before .before .before .before .before .before .before .before .before))
+    fresh-walkable _ _ (taken (c .before .before .before .before .before .before .before .before))
     (ap (λ (m : Marks). m .users) (c .before .mark-positions .ensures))
 
 returns-2 : tie.Need-returns-2
 returns-2 c =
     c .walk-on .ensures
-    ∙ start-walked _ _ (taken (c .before .before .before .before .before .before .before .before .before .before))
+    ∙ start-walked _ _ (taken (c .before .before .before .before .before .before .before .before .before))
 
 pub start-spec : {M : Type 1} → statement M
 start-spec =
     tie.close (tie.spec (λ c κs. search needs) (λ c κs. search needs) returns
-    (λ c κs. (positions _ _ (accepted _ _ (taken (c .before .before .before .before .before .before .before))), zero-le))
+    (λ c κs. (positions _ _ (accepted _ _ (taken (c .before .before .before .before .before .before))), zero-le))
     walk-on-requires returns-2)

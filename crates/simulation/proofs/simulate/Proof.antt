@@ -13,7 +13,7 @@ checked c = sym (ap (λ (v : Verdict). v .number) (c .before .before .check .ens
 
 -- there is a time for each task
 abbrev counted : tie.After-first-outside → tie.Else2
-counted c = c .before .before .before .before .before .before .before
+counted c = c .before .before .before .before .before .before
 
 returns : tie.Need-returns
 returns c = c .not-run .ensures ∙ simulation-refused _ _ (c .before .before .before .check .ensures) (c .before .if1 .taken) _
@@ -35,7 +35,7 @@ pub simulate-spec : {M : Type 1} → statement M
 simulate-spec =
     tie.close (tie.spec (λ c κs. search needs) (λ c κs. search needs) returns (λ c κs. search needs)
     (λ c. c .not-run2 .ensures ∙ says-17 _ _ (checked (c .before .before)) _ (c .before .if2 .taken))
-    (λ c κs. let e = c .before .before .before .before .before .before in (placed _ _ (checked (e .before)), e .if2 .left))
+    (λ c κs. let e = c .before .before .before .before .before in (placed _ _ (checked (e .before)), e .if2 .left))
     (λ c κs. search needs) returns-3
     (λ c κs. let e = counted (c .before) in
     given-runnable _ _ (checked (e .before)) _ (e .if2 .left) (c .before .first-outside .ensures) (c .if3 .left)) returns-4)

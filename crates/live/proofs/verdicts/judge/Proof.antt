@@ -28,7 +28,7 @@ abbrev from-sound : tie.After-is-sound → tie.After-is-over
 from-sound c = c .before .before .before .before .before .before
 
 abbrev first-two : tie.After-mark-positions → tie.Else1
-first-two c = c .before .before .before .before .before .before .before .before
+first-two c = c .before .before .before .before .before .before .before
 
 -- what the sets say of soundness
 sound-is : (c : tie.After-is-sound) → c .is-sound .result ≡ isSound (begin (first-two (from-sound c .before .before)) .args .s)
@@ -56,6 +56,6 @@ returns-3 c =
 pub judge-spec : {M : Type 1} → statement M
 judge-spec =
     tie.close (tie.spec (λ c κs. search needs) (λ c κs. search needs) returns
-    (λ c κs. positions-fit _ (passed (c .before .before .before .before .before .before .before)))
+    (λ c κs. positions-fit _ (passed (c .before .before .before .before .before .before)))
     (λ c κs. tasks-low _ (passed (first-two (c .before)))) (λ c κs. search needs) (λ c κs. search needs) returns-2
     (λ c κs. search needs) returns-3)

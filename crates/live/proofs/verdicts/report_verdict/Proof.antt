@@ -8,14 +8,13 @@ use Rattle.live.proofs.verdicts.report_verdict.Tie as tie
 returns : tie.Need-returns
 unfolding verdictBy
 returns c =
-    let e = c .before .before .before in
+    let e = c .before .before in
     let d = e .before .before in
     c .unless .ensures
-    ∙ rw (c .before .unless-empty3 .ensures, c .before .before .unless-empty2 .ensures, e .unless-empty .ensures)
-    (rw (e .before .refused .ensures, d .difference4 .ensures, d .before .before .difference3 .ensures)
-    (rw (d .before .before .before .difference2 .ensures, d .before .before .before .before .difference .ensures) refl))
+    ∙ rw (c .before .unless-empty2 .ensures, e .unless-empty .ensures, e .before .refused .ensures)
+    (rw (d .difference3 .ensures, d .before .before .difference2 .ensures, d .before .before .before .difference .ensures) refl)
 
 pub report-verdict-spec : {M : Type 1} → statement M
 report-verdict-spec =
     tie.close (tie.spec (λ c κs. search needs) (λ c κs. search needs) (λ c κs. search needs) (λ c κs. search needs)
-    (λ c κs. search needs) (λ c κs. search needs) (λ c κs. search needs) (λ c κs. search needs) (λ c κs. search needs) returns)
+    (λ c κs. search needs) (λ c κs. search needs) (λ c κs. search needs) returns)

@@ -9,11 +9,11 @@ use Rattle.simulation.proofs.times.first_outside.Statement.{statement}
 use Rattle.simulation.proofs.times.first_outside.Tie as tie
 
 abbrev Inv-loop : tie.InvT-loop
-Inv-loop bcet wcet order chosen times tasks lowest₀ k₀ lowest k =
-    (k ≤ tasks) × LowestOf tasks order (outsideAt bcet wcet order chosen times) k lowest
+Inv-loop wcet order chosen times tasks lowest₀ k₀ lowest k =
+    (k ≤ tasks) × LowestOf tasks order (outsideAt wcet order chosen times) k lowest
 
 abbrev μ-loop : tie.MeasureT-loop
-μ-loop bcet wcet order chosen times tasks lowest₀ k₀ lowest k = tasks - k
+μ-loop wcet order chosen times tasks lowest₀ k₀ lowest k = tasks - k
 
 mul-x : tie.Need-mul-x Inv-loop μ-loop
 mul-x c =
@@ -27,9 +27,9 @@ shared-slice-read-x c =
 
 loop-again : tie.Need-loop-again Inv-loop μ-loop
 loop-again c =
-    let l = c .before .before .before .before .before .before .before in (
+    let l = c .before .before .before .before .before .before in (
       search needs,
-      let e = outside-by _ _ _ _ _ _ (c .before .before .time-of .ensures) (c .before .time-of2 .ensures) in
+      let e = outside-by _ _ _ _ _ (c .before .time-of .ensures) in
           ⊎-elim (λ w. rw (w .1) (lowest-falls (l .loop .inv .1) e (w .0 .taken)))
           (λ w. rw (w .1) (lowest-stays (l .loop .inv .1) e (w .0 .left))) (c .if1 .came),
     )
@@ -37,5 +37,5 @@ loop-again c =
 pub first-outside-spec : {M : Type 1} → statement M
 first-outside-spec =
     tie.close (tie.spec Inv-loop μ-loop (λ c. (search needs, lowest-none)) (λ c. search needs) (λ c. search needs)
-    (λ c. search needs) (λ c. search needs) mul-x shared-slice-read-x (λ c κs. search needs) (λ c κs. search needs)
-    (λ c. search needs) (λ c. search needs) loop-again (λ c. lowest-end (c .before .loop .inv .1) (omega arith)))
+    (λ c. search needs) (λ c. search needs) mul-x shared-slice-read-x (λ c κs. search needs) (λ c. search needs)
+    (λ c. search needs) loop-again (λ c. lowest-end (c .before .loop .inv .1) (omega arith)))
