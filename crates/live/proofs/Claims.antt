@@ -132,6 +132,7 @@ claim p c ok reports =
       opened = ap said (start-moves p c ok);
       answered = ran .1;
       state = ran .0;
+      times = rw notes (theorems.notes-allowed p c ok reports);
       ahead = λ t l.
           ap₂ (λ (n : Notes) (k : ℕ). asFar (stage p (worst p c) n t) (stage p (worst p c) (timed p c (worst p c) k) t))
           notes (ap acceptedCount (ran .1))

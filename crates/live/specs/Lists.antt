@@ -7,9 +7,9 @@ use Rattle.plan.specs.declared.Plan.{Plan}
 use Rattle.plan.specs.declared.Constraint.{Constraint}
 use Rattle.plan.specs.Refusals.{verdict}
 use Rattle.dispatch_theory.specs.Sums.{sum}
-use Rattle.runs.specs.Running.{worst, timed, over, bound}
+use Rattle.runs.specs.Running.{worst, Allowed, timed, over, bound}
 use Rattle.runs.specs.Progress.{stage, asFar}
-use Rattle.runs.specs.Journal.{Answer, openingAnswer, journal, answers, acceptedCount}
+use Rattle.runs.specs.Journal.{Answer, openingAnswer, journal, answers, acceptedCount, takenTime}
 use Rattle.live.specs.declared.State.{State}
 use Rattle.live.specs.declared.Ticked.{Ticked}
 use Rattle.live.specs.States.{notesOf, stateOf}
@@ -36,6 +36,9 @@ pub record Faithful (p : Plan) (c : Constraint) (reports : List ℕ) : Type 0 wh
   -- "The state after the list has the plan and constraint that start accepted, and the book's instant, starts and finishes
   -- (0 for none), count of started and set of finished tasks"
   pub state : stateAfter (started p c .state) reports ≡ stateOf p c (journal p c reports)
+  -- the times taken, which are those reported and the worst where none is, are allowed: "all times from 1 to worst"
+  -- (document 02, 1)
+  pub times : Allowed p c (takenTime p c (notesOf (stateAfter (started p c .state) reports)))
   -- "every task is then at least as far as in the run of worst times at the instant equal to the number of accepted ticks"
   pub ahead : (t : ℕ) → t < p .tasks
       → asFar (stage p (worst p c) (notesOf (stateAfter (started p c .state) reports)) t)
