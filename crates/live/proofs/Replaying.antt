@@ -5,7 +5,7 @@ use Prim.Native.Nat.{ℕ, suc, _+_, _≤_, _<_, min}
 use native.Mathlib.Nat.{zero-add}
 use native.Mathlib.Numerals.{add-one}
 use native.Mathlib.Omega.{arith}
-use borrow.Author.Tests.{ltb-false, eqb-true, eqb-false, eq-eqb, ne-eqb}
+use borrow.Author.Tests.{ltb-false, eqb-false, eq-eqb, ne-eqb}
 use lib.Dec.{eqb, ltb}
 use lib.ListN.{length, getD, set, drop, length-set, length-map, drop-of-length-le}
 use lib.Seq.{drop-cons, sets-eq, sets as stores}
@@ -130,11 +130,3 @@ module _ (p : Plan) (c : Constraint) (reports numbers places sets : List ℕ) {v
         sets-filled = rw g (ap (λ (x : Outcome). x .1 .1 .1) ran);
         faithful = λ ok. claim p c ok reports;
       }
-
--- a list that replay does not refuse has room
-pub had-room : (p : Plan) (c : Constraint) (reports : List ℕ) (room : ℕ) → replayed p c reports room .number ≡ 0
-    → length reports ≤ room
-unfolding replayed
-had-room p c reports room ok =
-    fitted-room (verdict p c) (length reports) room refl
-    (by-test (eqb (replayVerdict p c reports room .number) 0) (eqb-true _ 0) (λ e. rw e at ok))

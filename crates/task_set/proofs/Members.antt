@@ -289,10 +289,6 @@ ones-count (suc k) s h =
     (ones-count k (s / 2) (half-lt k h) ∙ count-cong k (has (s / 2)) (λ i. has s (suc i)) (λ i l. sym (has-suc s i)))
     ∙ sym (count-front k (has s))
 
-pub ones-masked : (k s m : ℕ) → bitAnd s m < 2 ^ k → ones (bitAnd s m) ≡ count k (λ t. has s t && has m t)
-ones-masked k s m h =
-    ones-count k (bitAnd s m) h ∙ count-cong k (has (bitAnd s m)) (λ t. has s t && has m t) (λ t l. has-and t s m)
-
 -- a set without one of its members has one member fewer
 pub size-remove : (s t : ℕ) → t < width → has s t ≡ true → size s ≡ suc (size (remove s t))
 unfolding size
