@@ -19,7 +19,7 @@ use Rattle.plan_text.specs.declared.LineForm.{LineForm}
 use Rattle.plan_text.specs.declared.LineForm.the-variants.{Of, NoForm}
 use Rattle.plan_text.specs.declared.Answer.{Answer}
 use Rattle.plan_text.specs.Form.{newline, split, lineOf}
-use Rattle.plan_text.specs.Reading.{Reading, nothing, number, isKind, counted, named, stored, lineFault, lineDone}
+use Rattle.plan_text.specs.Reading.{Reading, nothing, kindU, kindT, kindA, kindC, number, isKind, counted, named, stored, lineFault, lineDone}
 use Rattle.plan_text.specs.Text.{mostBytes, answerOf, answerBy, refused, readLines, readText}
 use Rattle.plan_text.proofs.Faultless.{Passed, passed, times-pair}
 use Rattle.plan_text.proofs.Room.{counted-ge}
@@ -85,9 +85,9 @@ outside-set true times t k v a h u m f = by-test (ltb u mostTasks && ltb m mostT
 
 -- where a line without a fault stores, by its kind
 record Fits (r : Reading) (line : Line) : Type 0 where
-  next : isKind line 0 ≡ true → number line 0 ≡ r .plan .types
-  pair : isKind line 1 ≡ true → (number line 0 < mostTasks) × (number line 1 < mostTypes) × (number line 1 < r .plan .types)
-  to : isKind line 2 ≡ true → has (r .seen .timed) (number line 1) ≡ true
+  next : isKind line kindU ≡ true → number line 0 ≡ r .plan .types
+  pair : isKind line kindT ≡ true → (number line 0 < mostTasks) × (number line 1 < mostTypes) × (number line 1 < r .plan .types)
+  to : isKind line kindA ≡ true → has (r .seen .timed) (number line 1) ≡ true
 
 never : {P : Type 0} → false ≡ true → P
 never e = absurd (clash e refl)
@@ -108,23 +108,23 @@ pub record Kept (r : Reading) : Type 0 where
 
 module _ (r : Reading) (line : Line) (f : Fits r line) (h : Kept r) where
   abbrev tasks : ℕ
-  tasks = cond (isKind line 1) (max (r .plan .tasks) (number line 0 + 1)) (r .plan .tasks)
+  tasks = cond (isKind line kindT) (max (r .plan .tasks) (number line 0 + 1)) (r .plan .tasks)
 
   more-tasks : r .plan .tasks ≤ tasks
-  more-tasks = by-test (isKind line 1) (λ e. rw e (omega arith)) (λ e. rw e (omega arith))
+  more-tasks = by-test (isKind line kindT) (λ e. rw e (omega arith)) (λ e. rw e (omega arith))
 
   outside-more : (times : List ℕ) (i : ℕ) → Outside (r .plan .tasks) (r .plan .types) times
-      → Outside tasks (counted line 0 (r .plan .types))
-      (stored line 1 times (pairIndex (number line 0) (number line 1)) (number line i))
+      → Outside tasks (counted line kindU (r .plan .types))
+      (stored line kindT times (pairIndex (number line 0) (number line 1)) (number line i))
   outside-more times i o =
-      let m = counted-ge line 0 (r .plan .types) in
-      outside-set (isKind line 1) times (number line 0) (number line 1) (number line i)
+      let m = counted-ge line kindU (r .plan .types) in
+      outside-set (isKind line kindT) times (number line 0) (number line 1) (number line i)
       (λ e. (rw e (omega arith), omega (arith, f .pair e, m), f .pair e .1))
       (λ u k g. o u k (λ a b. g (omega (arith, more-tasks)) (omega (arith, m))))
 
-  timed-more : (t : ℕ) → has (named line 1 (r .seen .timed)) t ≡ true → t < tasks
+  timed-more : (t : ℕ) → has (named line kindT (r .seen .timed)) t ≡ true → t < tasks
   timed-more t =
-      by-test (isKind line 1)
+      by-test (isKind line kindT)
       (λ e. rw e (λ q. ⊎-elim (λ g. omega (arith, h .timed t g)) (λ g. omega (arith, eqb-true (number line 0) t g))
       (or-cases (has (r .seen .timed) t) (eqb (number line 0) t)
       (sym (has-insert (r .seen .timed) (number line 0) t (f .pair e .0)) ∙ q))))
@@ -136,17 +136,17 @@ module _ (r : Reading) (line : Line) (f : Fits r line) (h : Kept r) where
       let p = r .plan in
       let c = r .constraint in
       let u = h .unused in
-      let len = counted-ge line 3 (c .len) in
+      let len = counted-ge line kindC (c .len) in
       record {
         unused = record {
-          units = past-set (isKind line 0) (p .units) (number line 0) (number line 1) (λ e. rw e (omega (arith, f .next e)))
-              (counted-ge line 0 (p .types)) (u .units);
+          units = past-set (isKind line kindU) (p .units) (number line 0) (number line 1) (λ e. rw e (omega (arith, f .next e)))
+              (counted-ge line kindU (p .types)) (u .units);
           best = outside-more (p .bcet) 2 (u .best);
           worst = outside-more (p .wcet) 3 (u .worst);
-          predecessors = past-set (isKind line 2) (p .predecessors) (number line 1) _
+          predecessors = past-set (isKind line kindA) (p .predecessors) (number line 1) _
               (λ e. omega (arith, more-tasks, h .timed (number line 1) (f .to e))) more-tasks (u .predecessors);
-          order = past-set (isKind line 3) (c .order) (c .len) (number line 0) (λ e. rw e (omega arith)) len (u .order);
-          chosen = past-set (isKind line 3) (c .chosen) (c .len) (number line 1) (λ e. rw e (omega arith)) len (u .chosen);
+          order = past-set (isKind line kindC) (c .order) (c .len) (number line 0) (λ e. rw e (omega arith)) len (u .order);
+          chosen = past-set (isKind line kindC) (c .chosen) (c .len) (number line 1) (λ e. rw e (omega arith)) len (u .chosen);
         };
         timed = timed-more;
       }

@@ -10,14 +10,23 @@ use plan::MOST_TASKS;
 use plan::MOST_TYPES;
 use plan::MOST_UNITS;
 
+// The kinds of lines, in the order in which they stand in a text.
+pub const KIND_U: u32 = 0;
+
+pub const KIND_T: u32 = 1;
+
+pub const KIND_A: u32 = 2;
+
+pub const KIND_C: u32 = 3;
+
 pub fn kind_of(line: Line) -> u32
     ensures { λ r. ⌜ r ≡ kindOf line ⌝ }
 {
     match line {
-        Line::Units(_, _) => 0,
-        Line::Times(_, _, _, _) => 1,
-        Line::Arrow(_, _) => 2,
-        Line::Choice(_, _) => 3,
+        Line::Units(_, _) => KIND_U,
+        Line::Times(_, _, _, _) => KIND_T,
+        Line::Arrow(_, _) => KIND_A,
+        Line::Choice(_, _) => KIND_C,
     }
 }
 

@@ -8,6 +8,8 @@ ghost use Rattle.plan_text.specs.Reading.{counted, isKind, kindA, kindC,
 ghost use Rattle.plan_text.specs.Text.{mostBytes};
 use crate::Line;
 use crate::Seen;
+use crate::fault::KIND_C;
+use crate::fault::KIND_T;
 use crate::fault::kind_of;
 use plan::MOST_PAIRS;
 use plan::MOST_TASKS;
@@ -51,8 +53,8 @@ pub fn seen(seen: Seen, line: Line) -> Seen
         ≡ record { kind = kindOf line; timed = named line kindT (seen .timed); listed = named line kindC (seen .listed) } ⌝ }
 {
     let kind = kind_of(line);
-    let timed = named(seen.timed, 1, line);
-    let listed = named(seen.listed, 3, line);
+    let timed = named(seen.timed, KIND_T, line);
+    let listed = named(seen.listed, KIND_C, line);
     Seen {
         kind,
         timed,

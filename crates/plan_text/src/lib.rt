@@ -6,6 +6,8 @@ ghost use Rattle.plan_text.specs.Form.{newline};
 ghost use Rattle.plan_text.specs.Reading.{nothing};
 ghost use Rattle.plan_text.specs.Steps.{lineAt, partLength};
 ghost use Rattle.plan_text.specs.Text.{readText, refused};
+use fault::KIND_C;
+use fault::KIND_U;
 use fault::line_fault;
 use form::read_line;
 use plan::Constraint;
@@ -130,7 +132,7 @@ pub fn read(text: &[u8]) -> Answer
         if fault != 0 {
             return refuse(fault, place);
         }
-        p.types = fill::counted(p.types, 0, line);
+        p.types = fill::counted(p.types, KIND_U, line);
         fill::units(&mut p.units, line);
         p.tasks = fill::tasks(p.tasks, line);
         fill::times(&mut p.bcet, 2, line);
@@ -138,7 +140,7 @@ pub fn read(text: &[u8]) -> Answer
         fill::predecessors(&mut p.predecessors, line);
         fill::entries(c.len, &mut c.order, 0, line);
         fill::entries(c.len, &mut c.chosen, 1, line);
-        c.len = fill::counted(c.len, 3, line);
+        c.len = fill::counted(c.len, KIND_C, line);
         seen = fill::seen(seen, line);
         at = e + 1;
         place += 1;

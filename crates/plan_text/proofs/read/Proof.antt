@@ -8,7 +8,7 @@ use lib.ListN.{length, drop, drop-of-length-le}
 use borrow.Author.Needs.{needs}
 use Rattle.plan.specs.Rules.{mostTasks}
 use Rattle.plan_text.specs.Form.{newline, split}
-use Rattle.plan_text.specs.Reading.{Reading, outOfRange, lineFault, lineDone}
+use Rattle.plan_text.specs.Reading.{Reading, kindU, kindC, outOfRange, lineFault, lineDone}
 use Rattle.plan_text.specs.Text.{mostBytes, readLines, readText}
 use Rattle.plan_text.specs.declared.Line.{Line}
 use Rattle.plan_text.specs.declared.Line.the-variants.{Choice}
@@ -155,8 +155,8 @@ loop-again c =
       l .loop .inv .2 ∙ line-taken (text l) _ _ _ (read l) (ends a) (in-turn a) (line f) (form f) (faultless (past c))
           ∙ ap (readLines _ _) (sym d),
       subst Counted (sym d) (counted-more (read l) _ (faultless (past c)) (l .loop .inv .3)),
-      omega (arith, y .counted .ensures, l .loop .inv .4, counted-le (line f) 0 (l .loop .p .types)),
-      omega (arith, n .counted2 .ensures, l .loop .inv .5, counted-le (line f) 3 (l .loop .c .len)),
+      omega (arith, y .counted .ensures, l .loop .inv .4, counted-le (line f) kindU (l .loop .p .types)),
+      omega (arith, n .counted2 .ensures, l .loop .inv .5, counted-le (line f) kindC (l .loop .c .len)),
     )
 
 len-fits : tie.Need-counted-requires-2 Inv-loop μ-loop

@@ -3,6 +3,7 @@ use Prim.Native.Nat.{_<_}
 use native.Mathlib.Omega.{arith}
 use borrow.Author.Needs.{needs}
 use Rattle.plan.specs.Rules.{mostTasks}
+use Rattle.plan_text.specs.Reading.{kindC}
 use Rattle.plan_text.proofs.Told.{other}
 use Rattle.plan_text.proofs.fill.entries.Statement.{statement}
 use Rattle.plan_text.proofs.fill.entries.Tie as tie
@@ -14,4 +15,4 @@ pub entries-spec : {M : Type 1} → statement M
 entries-spec =
     tie.close (tie.spec (λ c. search needs) (λ c. search needs) (λ c. search needs) (λ c. search needs)
     (λ c. search needs) (λ c. omega (arith, low c)) low (λ c. rw (c .before .line .given .1))
-    (λ c. rw (other 3 _ (c .match .keys2))))
+    (λ c. rw (other kindC _ (c .match .keys2))))

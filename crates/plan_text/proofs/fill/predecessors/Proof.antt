@@ -3,6 +3,7 @@ use Prim.Native.Nat.{_<_}
 use borrow.Author.Needs.{needs}
 use borrow.Author.Tests.{lt-ltb}
 use Rattle.plan.specs.Rules.{mostTasks, predecessorsOf}
+use Rattle.plan_text.specs.Reading.{kindA}
 use Rattle.plan_text.proofs.Faultless.{arrow-to}
 use Rattle.plan_text.proofs.Told.{other}
 use Rattle.plan_text.proofs.fill.predecessors.Statement.{statement}
@@ -19,4 +20,4 @@ pub predecessors-spec : {M : Type 1} → statement M
 predecessors-spec =
     tie.close (tie.spec (λ c. search needs) (λ c. search needs) (λ c. search needs)
     (λ c. arrow-to (c .before .before .before .pre) (c .before .line .given .1)) (λ c. search needs)
-    (λ c κs. search needs) (λ c. search needs) low returns (λ c. rw (other 2 _ (c .match .keys2))))
+    (λ c κs. search needs) (λ c. search needs) low returns (λ c. rw (other kindA _ (c .match .keys2))))

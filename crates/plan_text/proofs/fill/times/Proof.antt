@@ -5,6 +5,7 @@ use native.Mathlib.Omega.{arith}
 use borrow.Author.Needs.{needs}
 use Rattle.plan.specs.Rules.{mostPairs}
 use Rattle.plan.proofs.Pairs.{place-is}
+use Rattle.plan_text.specs.Reading.{kindT}
 use Rattle.plan_text.proofs.Faultless.{times-pair}
 use Rattle.plan_text.proofs.Told.{other}
 use Rattle.plan_text.proofs.fill.times.Statement.{statement}
@@ -23,4 +24,4 @@ returns c =
 pub times-spec : {M : Type 1} → statement M
 times-spec =
     tie.close (tie.spec (λ c. search needs) (λ c. search needs) (λ c. search needs) (λ c κs. search needs)
-    (λ c. search needs) (λ c. search needs) (λ c. omega (arith, low c)) low returns (λ c. rw (other 1 _ (c .match .keys2))))
+    (λ c. search needs) (λ c. search needs) (λ c. omega (arith, low c)) low returns (λ c. rw (other kindT _ (c .match .keys2))))
