@@ -15,7 +15,7 @@ use Rattle.timetable.specs.declared.Written.{Written}
 use Rattle.timetable.specs.Table.{textOf, longestTimetable, worstTimetabled, worstBufferAfter}
 use Rattle.timetable.specs.Refusal.{refusalLine, lineWritten, lineAfter}
 use Rattle.timetable.proofs.Outcomes.{refuses, fits, refusal-longest}
-use Rattle.timetable.proofs.Ran.{first-taken}
+use Rattle.simulation.proofs.Ran.{first-taken}
 use Rattle.timetable.proofs.Longest.{longest-worst}
 use Rattle.bench_answer.specs.Answer.{answerTo, answerText}
 

@@ -9,3 +9,5 @@ pub mod Lowest
 pub mod Reached
 -- the answers of simulate and bound
 pub mod Answers
+-- a simulation that is not refused is a run
+pub mod Ran

@@ -7,7 +7,5 @@ pub mod Stores
 pub mod Text
 -- a text or a refusal in a lent buffer
 pub mod Outcomes
--- the runs that a timetable shows
-pub mod Ran
 -- no timetable is longer than the longest
 pub mod Longest

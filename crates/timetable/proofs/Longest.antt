@@ -27,7 +27,7 @@ use Rattle.timetable.specs.Decimal.{decimalUpto, decimal}
 use Rattle.timetable.specs.Table.{textBy, textOf, longestTimetable}
 use Rattle.timetable.proofs.Digits.{length-one, decimal-mono}
 use Rattle.timetable.proofs.Text.{line-length, lineAt, length-lines}
-use Rattle.timetable.proofs.Ran.{simulated-taken, times-taken, simulated-runs, worst-taken, worst-runs}
+use Rattle.simulation.proofs.Ran.{simulated-taken, times-taken, simulated-runs, worst-taken, worst-runs}
 
 sum-apart : (n : ℕ) (f g h : ℕ → ℕ) → ((i : ℕ) → i < n → f i ≤ g i + h i) → sum n f ≤ sum n g + sum n h
 unfolding sum

@@ -2,7 +2,7 @@
 use borrow.Author.Needs.{needs}
 use Rattle.timetable.specs.Table.{timetabled, bufferAfter}
 use Rattle.timetable.proofs.Outcomes.{by-run}
-use Rattle.timetable.proofs.Ran.{simulated-taken, few}
+use Rattle.simulation.proofs.Ran.{simulated-taken, few}
 use Rattle.timetable.proofs.timetable.Statement.{statement}
 use Rattle.timetable.proofs.timetable.Tie as tie
 

@@ -2,7 +2,7 @@
 use borrow.Author.Needs.{needs}
 use Rattle.timetable.specs.Table.{worstTimetabled, worstBufferAfter}
 use Rattle.timetable.proofs.Outcomes.{by-run}
-use Rattle.timetable.proofs.Ran.{worst-taken, few}
+use Rattle.simulation.proofs.Ran.{worst-taken, few}
 use Rattle.timetable.proofs.worst_timetable.Statement.{statement}
 use Rattle.timetable.proofs.worst_timetable.Tie as tie
 
