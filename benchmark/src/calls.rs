@@ -1,5 +1,6 @@
 //! The proved code behind safe functions.
 use rival::limits::{PAIRS, TASKS, TYPES};
+use rival::margins::Margins;
 use rival::plan::{Constraint, Plan};
 use rival::run::Times;
 
@@ -13,6 +14,7 @@ pub struct ArchivePlan {
     pub best: [u32; PAIRS],
     worst: [u32; PAIRS],
     predecessors: [u64; TASKS],
+    deadlines: [u32; TASKS],
 }
 
 #[repr(C)]
@@ -47,6 +49,16 @@ struct Simulation {
 }
 
 #[repr(C)]
+struct Slacks {
+    number: u32,
+    place: usize,
+    any: bool,
+    least: i64,
+    task: usize,
+    slacks: [i64; TASKS],
+}
+
+#[repr(C)]
 struct State {
     plan: ArchivePlan,
     constraint: ArchiveConstraint,
@@ -72,6 +84,7 @@ extern "C" {
     fn speed_simulate(
         plan: ArchivePlan, constraint: ArchiveConstraint, times: *const u32, times_len: usize,
     ) -> Simulation;
+    fn speed_margins(plan: ArchivePlan, constraint: ArchiveConstraint) -> Slacks;
     fn speed_replay(
         plan: ArchivePlan, constraint: ArchiveConstraint, reports: *const u64, reports_len: usize,
         numbers: *mut u32, numbers_len: usize, places: *mut usize, places_len: usize,
@@ -95,6 +108,7 @@ impl Input {
                 best: plan.best,
                 worst: plan.worst,
                 predecessors: plan.predecessors,
+                deadlines: plan.deadlines,
             },
             constraint: ArchiveConstraint {
                 length: constraint.length as usize,
@@ -111,6 +125,7 @@ impl Input {
         read.number == 0
             && (p.types, p.tasks, p.units) == (q.types, q.tasks, q.units)
             && (p.best, p.worst, p.predecessors) == (q.best, q.worst, q.predecessors)
+            && p.deadlines == q.deadlines
             && (c.length, c.order, c.chosen) == (d.length, d.order, d.chosen)
     }
 }
@@ -142,6 +157,12 @@ pub fn check(i: &Input) -> Verdict {
 /// What reading the text gives.
 pub fn read(text: &[u8]) -> Read {
     unsafe { speed_read(text.as_ptr(), text.len()) }
+}
+
+/// The margins; zeros if refused.
+pub fn margins(i: &Input) -> Margins {
+    let s = unsafe { speed_margins(i.plan, i.constraint) };
+    Margins { any: s.any, least: s.least, task: s.task as u64, margins: s.slacks }
 }
 
 /// All starts, finishes and the response; zeros if refused.

@@ -11,7 +11,7 @@ mod plans;
 use calls::{Answers, Input};
 use plans::Shape;
 use rival::fast;
-use rival::limits::{LONGEST_TEXT, LONGEST_TIME, TASKS};
+use rival::limits::{LATEST_DEADLINE, LONGEST_TEXT, LONGEST_TIME, TASKS};
 use rival::simulate::worst_times;
 use std::hint::black_box;
 
@@ -78,6 +78,21 @@ fn simulate(table: &mut Table, name: &str, shape: &Shape) {
     table.line(name, || measure::by_turns(ours, rivals), 2.0);
 }
 
+/// Every task has a deadline; some are late.
+fn margins(table: &mut Table, name: &str, shape: &Shape) {
+    let (mut plan, constraint) = shape.plan();
+    for t in 0..plan.tasks as usize {
+        plan.deadlines[t] = LATEST_DEADLINE - 40 * t as u32;
+    }
+    let input = Input::new(&plan, &constraint);
+    let found = fast::margins(&plan, &constraint);
+    assert!(found.as_ref().is_ok_and(|margins| margins.least < 0));
+    assert_eq!(found, Ok(calls::margins(&input)));
+    let ours = || calls::margins(black_box(&input));
+    let rivals = || fast::margins(black_box(&plan), black_box(&constraint));
+    table.line(name, || measure::by_turns(ours, rivals), 2.0);
+}
+
 /// The answers are lent again and again and are not cleared in between: every
 /// replay writes every entry, as the comparison shows.
 fn replay(table: &mut Table, name: &str, shape: &Shape) {
@@ -134,6 +149,8 @@ fn main() {
     check(t, "check 64 tasks, few arrows", &plans::FEW_ARROWS);
     simulate(t, "simulate the largest plan", &plans::LARGEST);
     simulate(t, "simulate 64 tasks, few arrows", &plans::FEW_ARROWS);
+    margins(t, "margins of the largest plan", &plans::LARGEST);
+    margins(t, "margins of 64 tasks, few arrows", &plans::FEW_ARROWS);
     replay(t, "replay a chain", &plans::CHAIN);
     replay(t, "replay all at once", &plans::WIDE);
     replay(t, "replay a mixture", &plans::MIXED);

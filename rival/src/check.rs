@@ -32,12 +32,13 @@ fn usable(plan: &Plan, task: usize, kind: usize) -> bool {
     plan.best[pair(task, kind)] != 0
 }
 
-/// The rules of "The plan".
-fn keeps_the_rules(plan: &Plan) -> bool {
+/// The rules of "The plan", with its deadlines.
+pub fn keeps_the_rules(plan: &Plan) -> bool {
     plan.counts_are_right()
         && units_are_right(plan)
         && pairs_are_right(plan)
         && predecessors_are_right(plan)
+        && deadlines_are_right(plan)
 }
 
 fn units_are_right(plan: &Plan) -> bool {
@@ -66,5 +67,13 @@ fn predecessors_are_right(plan: &Plan) -> bool {
         let own = set >> t & 1 == 1;
         let absent = set & !first_tasks(plan.tasks) != 0;
         if (t as u64) < plan.tasks { !own && !absent } else { set == 0 }
+    })
+}
+
+fn deadlines_are_right(plan: &Plan) -> bool {
+    (0..TASKS).all(|t| {
+        let deadline = plan.deadlines[t];
+        let present = (t as u64) < plan.tasks;
+        deadline == 0 || (present && deadline <= LATEST_DEADLINE)
     })
 }

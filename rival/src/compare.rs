@@ -1,10 +1,11 @@
 //! Holds another driver, or another program, against this one, byte for byte.
 use crate::driver;
 use crate::generate;
+use crate::margins;
 use crate::random::Random;
 use crate::reached::Reached;
 use crate::texts;
-use crate::timetable::program;
+use crate::timetable;
 use std::io::{Read, Write};
 use std::process::{Command, Stdio};
 
@@ -70,20 +71,45 @@ pub fn sessions(dir: &str, command: &str, seed: u64, count: u64) -> std::io::Res
         }
     }
     println!("{count} sessions, {commands} commands, no difference");
-    reached.print();
-    let faults = reached.faults();
-    for fault in &faults {
+    reached.print_numbers();
+    Ok(verdict(&reached, &reached.faults()))
+}
+
+/// Prints how often the commands reached what, and the faults in that; says whether there are none.
+fn verdict(reached: &Reached, faults: &[String]) -> bool {
+    reached.print_commands();
+    for fault in faults {
         println!("{fault}");
     }
-    Ok(faults.is_empty())
+    faults.is_empty()
 }
 
 /// Compares the program of document 01 on random texts.
 pub fn texts(dir: &str, command: &str, seed: u64, count: u64) -> std::io::Result<bool> {
+    programs(timetable::program, dir, command, seed, count)
+}
+
+/// Compares the program of the margins on the same texts.
+pub fn margins(dir: &str, command: &str, seed: u64, count: u64) -> std::io::Result<bool> {
+    programs(margins::program, dir, command, seed, count)
+}
+
+/// A plan text in, an answer out.
+type Program = fn(&[u8]) -> Vec<u8>;
+
+fn programs(
+    program: Program,
+    dir: &str,
+    command: &str,
+    seed: u64,
+    count: u64,
+) -> std::io::Result<bool> {
     std::fs::create_dir_all(dir)?;
+    let mut reached = Reached::default();
     let mut random = Random::new(seed);
     for number in 0..count {
         let text = texts::text(&mut random);
+        reached.note_program(&text);
         let (ours, theirs) = (program(&text), output_of(command, &text)?);
         if ours != theirs {
             let file = format!("{dir}/{number:03}.txt");
@@ -94,5 +120,5 @@ pub fn texts(dir: &str, command: &str, seed: u64, count: u64) -> std::io::Result
         }
     }
     println!("{count} texts, no difference");
-    Ok(true)
+    Ok(verdict(&reached, &reached.faults_of_texts()))
 }

@@ -1,6 +1,7 @@
 //! The driver: a text, then commands, one answer for each.
 use crate::check::check;
 use crate::limits::*;
+use crate::margins::{margins, Margins};
 use crate::plan::*;
 use crate::reached::{Reached, TEXT, TICKS_OF_Z};
 use crate::reader::read;
@@ -8,6 +9,7 @@ use crate::run::Times;
 use crate::simulate::{bound, simulate};
 use crate::state::{replay, start, State};
 use crate::timetable::{of_worst_times, timetable};
+use std::fmt::Display;
 
 /// A line of this many bytes is answered `bad`, whatever it says.
 pub const TOO_LONG: usize = 1_024;
@@ -17,6 +19,9 @@ pub const MOST_TIMES: usize = 80;
 pub const LONGEST_LIST: usize = 79;
 /// Bytes that may be lent.
 pub const MOST_ROOM: u64 = 2_000;
+
+/// For a line without fields.
+const NONE: [u64; 0] = [];
 
 pub struct Driver {
     pub plan: Plan,
@@ -69,6 +74,7 @@ fn plan_slot<'a>(
         6 if index == 0 => Slot::Long(&mut constraint.length),
         7 => Slot::Long(constraint.task.get_mut(index)?),
         8 => Slot::Long(constraint.kind.get_mut(index)?),
+        14 => Slot::Short(plan.deadlines.get_mut(index)?),
         _ => return None,
     })
 }
@@ -113,7 +119,8 @@ impl Driver {
             reached: Reached::default(),
         };
         let answer = read(text);
-        driver.say(TEXT, "read", answer.as_ref().err(), &[]);
+        driver.reached.note_text(text, &answer);
+        driver.say(TEXT, "read", answer.as_ref().err(), &NONE);
         if let Ok((plan, constraint)) = answer {
             driver.plan = plan;
             driver.constraint = constraint;
@@ -133,7 +140,7 @@ impl Driver {
     /// Carries out one line and answers it.
     pub fn command(&mut self, line: &[u8]) {
         if line.len() >= TOO_LONG || self.obey(line).is_none() {
-            self.line("bad", &[]);
+            self.line("bad", &NONE);
         }
     }
 
@@ -144,6 +151,7 @@ impl Driver {
         match (letter, &fields[..]) {
             (b'K', []) => self.check(),
             (b'B', []) => self.bound(),
+            (b'D', []) => self.margins(),
             (b'S', []) => self.start(),
             (b'Q', []) => self.query(),
             (b'M', times) if times.len() <= MOST_TIMES => self.simulate(&short(times)?),
@@ -155,14 +163,14 @@ impl Driver {
             (b'Z', reports) if reports.len() <= LONGEST_LIST => self.replay(reports),
             (b'P' | b'R', &[part, index, value]) => {
                 let fits = self.slot(letter, part, index)?.put(value);
-                fits.then(|| self.line("put", &[]))?;
+                fits.then(|| self.line("put", &NONE))?;
             }
             _ => return None,
         }
         Some(())
     }
 
-    fn line(&mut self, name: &str, fields: &[u64]) {
+    fn line<T: Display>(&mut self, name: &str, fields: &[T]) {
         self.out.extend_from_slice(name.as_bytes());
         for field in fields {
             self.out.extend_from_slice(format!("\t{field}").as_bytes());
@@ -171,21 +179,42 @@ impl Driver {
     }
 
     /// A line with number and place, then the other fields.
-    fn say(&mut self, command: &'static str, name: &str, refusal: Option<&Refusal>, rest: &[u64]) {
+    fn say<T: Display>(
+        &mut self,
+        command: &'static str,
+        name: &str,
+        refusal: Option<&Refusal>,
+        rest: &[T],
+    ) {
         let [number, place] = number_and_place(refusal);
         self.reached.note(command, number);
-        self.line(name, &[&[number, place], rest].concat());
+        if number == 8 {
+            self.reached.note_plan(command, &self.plan);
+        }
+        self.line(&format!("{name}\t{number}\t{place}"), rest);
     }
 
     fn check(&mut self) {
         let answer = check(&self.plan, &self.constraint);
-        self.say("K", "check", answer.err().as_ref(), &[]);
+        self.say("K", "check", answer.err().as_ref(), &NONE);
     }
 
     fn bound(&mut self) {
         let answer = bound(&self.plan, &self.constraint);
         let response = answer.as_ref().map_or(0, |t| t.response as u64);
         self.say("B", "bound", answer.err().as_ref(), &[response]);
+    }
+
+    fn margins(&mut self) {
+        let answer = margins(&self.plan, &self.constraint);
+        let zero = Margins::zero();
+        let Margins { any, least, task, margins } = answer.as_ref().unwrap_or(&zero);
+        let mut rest = vec![i64::from(*any), *least, *task as i64];
+        rest.extend(margins);
+        if let Ok(margins) = &answer {
+            self.reached.note_margins("D", &self.plan, margins);
+        }
+        self.say("D", "margins", answer.as_ref().err(), &rest);
     }
 
     fn simulate(&mut self, times: &[u32]) {
@@ -208,8 +237,10 @@ impl Driver {
         let state = std::mem::replace(&mut self.state, State::zero());
         let (state, answer) = state.tick(report);
         self.state = state;
-        if answer.is_ok() {
-            self.reached.note_tick("T", &self.state, self.state.instant);
+        match answer {
+            Ok(_) => self.reached.note_tick("T", &self.state, self.state.instant),
+            Err(Refusal { number: 12, .. }) => self.reached.note_unsound("T", &self.state),
+            Err(_) => {}
         }
         self.say("T", "tick", answer.err().as_ref(), &[answer.unwrap_or(0)]);
     }

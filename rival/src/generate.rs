@@ -48,12 +48,13 @@ impl Session {
 
     fn write_commands(&mut self) {
         self.give("K");
+        self.give("D");
         let accepted = crate::check::check(&self.driver.plan, &self.driver.constraint).is_ok();
         if self.random.once_in(2) || accepted {
             self.give("S");
         }
         // In every third session about half of the commands are timetables of given times and replays.
-        let kinds = if self.random.once_in(3) { 29 } else { 17 };
+        let kinds = if self.random.once_in(3) { 32 } else { 20 };
         for _ in 0..if accepted { self.random.from(6, 30) } else { 4 } {
             match self.random.below(kinds) {
                 0 => self.give("B"),
@@ -68,7 +69,9 @@ impl Session {
                 10 => self.give("S"),
                 11..=13 => self.ticks(),
                 14 => self.alter_order(),
-                15 | 17..=22 => self.timetable(),
+                15 | 20..=25 => self.timetable(),
+                17 => self.give("D"),
+                18 | 19 => self.alter_deadline(),
                 _ => self.replay(),
             }
         }
@@ -133,6 +136,7 @@ impl Session {
                 5 | 11 => old ^ 1 << self.random.below(tasks.max(1)),
                 7 => self.random.below(tasks + 1),
                 8 => self.random.below(types + 1),
+                14 => u64::from(LATEST_DEADLINE) + self.random.below(2),
                 _ => old.wrapping_add(1),
             },
             0 => old.wrapping_add(1),
@@ -172,7 +176,7 @@ impl Session {
     }
 
     fn alter_plan(&mut self) {
-        let back = self.put('P', &[0, 1, 2, 3, 4, 5, 5, 6, 7, 7, 8, 8, 9]);
+        let back = self.put('P', &[0, 1, 2, 3, 4, 5, 5, 6, 7, 7, 8, 8, 9, 14, 14]);
         self.ask();
         if let Some(back) = back.filter(|_| !self.random.once_in(12)) {
             self.give(&back);
@@ -208,13 +212,14 @@ impl Session {
 
     /// One of the commands that begin with the check.
     fn ask(&mut self) {
-        match self.random.below(9) {
+        match self.random.below(11) {
             0 => self.give("K"),
             1 => self.give("S"),
             2 => self.give("B"),
             3 => self.simulate(),
             4 => self.worst_timetable(),
             5 | 6 => self.timetable(),
+            7 | 8 => self.give("D"),
             _ => self.replay(),
         }
     }
@@ -234,11 +239,43 @@ impl Session {
         self.give(&format!("{letter}\t4\t{at}\t{worst}"));
     }
 
+    /// Puts a deadline or takes one away; for a while, one out of range or of an absent task.
+    fn alter_deadline(&mut self) {
+        let commands = [('P', "D"), ('P', "D"), ('P', "K"), ('P', "S"), ('P', "any"), ('R', "T")];
+        let (letter, then) = self.random.pick(&commands);
+        if letter == 'R' && self.last_in_time().is_none() {
+            self.give("S");
+        }
+        let ((tasks, _), last) = (self.sizes(), TASKS as u64 - 1);
+        let (present, absent) = (self.random.below(tasks), self.random.from(tasks.min(last), last));
+        let task = self.random.pick(&[present, present, absent]);
+        let (old, other) = self.deadline_and_another(letter, task as usize);
+        let beyond = self.random.pick(&[u64::from(LATEST_DEADLINE) + 1, u32::MAX.into()]);
+        let value = self.random.pick(&[other, other, other, 0, beyond]);
+        self.give(&format!("{letter}\t14\t{task}\t{value}"));
+        match then {
+            "T" => self.legal_tick(),
+            "any" => self.ask(),
+            _ => self.give(then),
+        }
+        if task >= tasks || value == beyond || self.random.once_in(4) {
+            self.give(&format!("{letter}\t14\t{task}\t{old}"));
+        }
+    }
+
+    /// The deadline that `P` or `R` would alter, and one that is often about the worst finish.
+    fn deadline_and_another(&mut self, letter: char, task: usize) -> (u32, u64) {
+        let Driver { plan, constraint, state, .. } = &self.driver;
+        let old = if letter == 'P' { plan.deadlines[task] } else { state.plan.deadlines[task] };
+        let finish = bound(plan, constraint).map_or(1, |run| run.finishes[task]);
+        (old, inputs::deadline(&mut self.random, finish.into()))
+    }
+
     fn alter_state(&mut self) {
         if self.last_in_time().is_none() && self.random.once_in(2) {
             self.give("S");
         }
-        let parts = [0, 1, 1, 2, 3, 4, 5, 6, 7, 8, 9, 9, 9, 10, 10, 11, 11, 12, 12, 13, 13, 14];
+        let parts = [0, 1, 1, 2, 3, 4, 5, 6, 7, 8, 9, 9, 9, 10, 10, 11, 11, 12, 12, 13, 13, 14, 14, 15];
         let back = self.put('R', &parts);
         self.legal_tick();
         if let Some(back) = back.filter(|_| !self.random.once_in(12)) {
@@ -321,7 +358,9 @@ impl Session {
         let lines = [
             "", "K\t", "K\t0", "B ", "k", "T", "T\t", "T\t-1", "T\t1\t2", "S\r", "Q\t1", "W", "Y", "z",
             "W\t00000000000000000012", "W\t000000000000000000012", "T\t18446744073709551615",
-            "T\t18446744073709551616", "P\t0\t0", "P\t9\t0\t0", "R\t14\t0\t0", "P\t0\t1\t1",
+            "T\t18446744073709551616", "P\t0\t0", "P\t9\t0\t0", "R\t15\t0\t0", "P\t0\t1\t1",
+            "D\t", "D\t0", "d", "D ", "DD", "P\t13\t0\t0", "P\t15\t0\t0", "P\t14\t0", "P\t14\t0\t4294967296",
+            "R\t14\t0\t4294967296", "P\t14\t0\t-1",
             "R\t9\t0\t4294967296", "M\t", "\tK", "KK", "M\t4294967296", "Y\t", "Y\t9\t", "Y\t9\t-1",
             "Y\t9\t4294967296", "Z\t", "Z\t-1", "Z\t0\t", "Z\t1\t18446744073709551616", "Z\t18446744073709551615",
         ];
@@ -331,6 +370,8 @@ impl Session {
             format!("P\t1\t{TYPES}\t1"),
             format!("R\t3\t{PAIRS}\t1"),
             format!("P\t7\t{TASKS}\t0"),
+            format!("P\t14\t{TASKS}\t0"),
+            format!("R\t14\t{TASKS}\t1"),
         ];
         let lines: Vec<&str> = lines.into_iter().chain(beyond.iter().map(String::as_str)).collect();
         let line = self.random.pick(&lines);

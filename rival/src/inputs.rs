@@ -1,4 +1,4 @@
-//! Random times and reports for a plan: most are legal, the others are wrong on purpose.
+//! Random times, deadlines and reports for a plan: most are legal, the others are wrong on purpose.
 use crate::check::check;
 use crate::driver::LONGEST_LIST;
 use crate::limits::*;
@@ -67,6 +67,34 @@ pub fn times(random: &mut Random, plan: &Plan, constraint: &Constraint) -> Vec<u
         _ => {}
     }
     times
+}
+
+/// A deadline for each of these worst finishes, all chosen in one way or each in its own.
+pub fn deadlines(random: &mut Random, finishes: &[u32]) -> Vec<u64> {
+    let which = random.below(9);
+    finishes.iter().map(|&finish| one_deadline(random, which, finish.into())).collect()
+}
+
+/// A deadline for this worst finish: when it is, a little later, about then, early, at one of the
+/// ends, or anything.
+pub fn deadline(random: &mut Random, finish: u64) -> u64 {
+    let which = random.below(7);
+    one_deadline(random, which, finish)
+}
+
+fn one_deadline(random: &mut Random, which: u64, finish: u64) -> u64 {
+    let (first, last) = (1, u64::from(LATEST_DEADLINE));
+    let deadline = match which {
+        0 => finish,
+        1 => finish + random.below(3),
+        2 => finish + random.from(1, 9),
+        3 => (finish + 2).saturating_sub(random.below(5)),
+        4 => random.from(first, finish.max(first)),
+        5 => random.pick(&[first, last]),
+        6 => random.from(first, last),
+        _ => return deadline(random, finish),
+    };
+    deadline.clamp(first, last)
 }
 
 /// A report that a sound state takes; 0 for others.

@@ -7,6 +7,7 @@ pub mod generate;
 pub mod inputs;
 pub mod journal;
 pub mod limits;
+pub mod margins;
 pub mod plan;
 pub mod random;
 pub mod reached;

@@ -10,6 +10,8 @@ pub struct Plan {
     pub worst: [u32; PAIRS],
     /// Bit p of entry t: task t waits for task p.
     pub predecessors: [u64; TASKS],
+    /// 0 for a task without one.
+    pub deadlines: [u32; TASKS],
 }
 
 /// The execution order and the one type that each task may use.
@@ -30,6 +32,14 @@ pub fn refuse<T>(number: u64, place: u64) -> Result<T, Refusal> {
     Err(Refusal { number, place })
 }
 
+impl Refusal {
+    /// The one line that a program writes.
+    pub fn line(self) -> String {
+        let Refusal { number, place } = self;
+        format!("refused\t{number}\t{place}\n")
+    }
+}
+
 impl Plan {
     pub fn zero() -> Plan {
         Plan {
@@ -39,6 +49,7 @@ impl Plan {
             best: [0; PAIRS],
             worst: [0; PAIRS],
             predecessors: [0; TASKS],
+            deadlines: [0; TASKS],
         }
     }
 

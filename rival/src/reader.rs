@@ -12,10 +12,11 @@ struct Reading {
 }
 
 /// The line forms, in the order in which they may follow each other.
-const FORMS: [(u8, usize); 4] = [(b'U', 2), (b'T', 4), (b'A', 2), (b'C', 2)];
+const FORMS: [(u8, usize); 5] = [(b'U', 2), (b'T', 4), (b'A', 2), (b'D', 2), (b'C', 2)];
 const U: usize = 0;
 const T: usize = 1;
 const A: usize = 2;
+const D: usize = 3;
 
 pub fn read(text: &[u8]) -> Result<(Plan, Constraint), Refusal> {
     if text.len() > LONGEST_TEXT {
@@ -43,7 +44,7 @@ pub fn read(text: &[u8]) -> Result<(Plan, Constraint), Refusal> {
     Ok((reading.plan, reading.constraint))
 }
 
-/// The kind of a line and its fields, or nothing if it has none of the four forms.
+/// The kind of a line and its fields, or nothing if it has none of the forms.
 fn form(line: &[u8]) -> Option<(usize, Vec<usize>)> {
     let mut parts = line.split(|&b| b == b'\t');
     let letter = parts.next()?;
@@ -67,10 +68,12 @@ fn field(bytes: &[u8]) -> Option<usize> {
 fn in_range(kind: usize, f: &[usize]) -> bool {
     let (is_type, is_task) = (|n| n < TYPES, |n| n < TASKS);
     let is_time = |n| (1..=LONGEST_TIME as usize).contains(&n);
+    let is_deadline = |n| (1..=LATEST_DEADLINE as usize).contains(&n);
     match kind {
         U => is_type(f[0]) && (1..=UNITS).contains(&f[1]),
         T => is_task(f[0]) && is_type(f[1]) && is_time(f[2]) && is_time(f[3]),
         A => is_task(f[0]) && is_task(f[1]),
+        D => is_task(f[0]) && is_deadline(f[1]),
         _ => is_task(f[0]) && is_type(f[1]),
     }
 }
@@ -119,6 +122,7 @@ impl Reading {
             U => false,
             T => self.plan.best[pair(f[0], f[1])] != 0,
             A => self.plan.predecessors[f[1]] >> f[0] & 1 == 1,
+            D => self.plan.deadlines[f[0]] != 0,
             _ => self.in_order >> f[0] & 1 == 1,
         }
     }
@@ -136,6 +140,7 @@ impl Reading {
                 self.with_times |= 1 << f[0];
             }
             A => self.plan.predecessors[f[1]] |= 1 << f[0],
+            D => self.plan.deadlines[f[0]] = f[1] as u32,
             _ => {
                 let p = self.constraint.length as usize;
                 self.constraint.task[p] = f[0] as u64;

@@ -1,18 +1,31 @@
-//! Random plan texts: sound, damaged, and as long as may be.
+//! Random plan texts: sound, refused for one fault, damaged, and as long as may be.
+use crate::inputs;
 use crate::limits::*;
-use crate::plan::{Constraint, Plan};
+use crate::plan::{pair, Constraint, Plan};
 use crate::random::Random;
 use crate::reader::read;
+use crate::simulate::bound;
 
-/// A text: mostly sound, sometimes damaged, sometimes about as long as may be.
+/// A text: about half are sound, the others are refused for one fault or damaged; now and then one
+/// is about as long as may be, or has a margin as far from zero as may be.
 pub fn text(random: &mut Random) -> Vec<u8> {
-    if random.once_in(40) {
+    if random.once_in(30) {
         return long_text(random);
     }
-    let mut lines = sound_lines(random);
-    if random.once_in(2) {
-        return join(&lines);
+    if random.once_in(25) {
+        return join(&extreme_lines(random));
     }
+    let mut lines = sound_lines(random);
+    match random.below(13) {
+        0 | 1 => refused_deadline(random, &mut lines),
+        2 | 3 => refused_plan(random, &mut lines),
+        4..=6 => return damaged_text(random, lines),
+        _ => {}
+    }
+    join(&lines)
+}
+
+fn damaged_text(random: &mut Random, mut lines: Vec<String>) -> Vec<u8> {
     for _ in 0..random.from(1, 2) {
         damage_lines(random, &mut lines);
     }
@@ -71,7 +84,44 @@ pub fn sound_lines(random: &mut Random) -> Vec<String> {
     }
     lines.extend(pairs);
     lines.extend(arrows);
-    lines.extend(order.iter().map(|t| format!("C\t{t}\t{}", chosen[*t as usize])));
+    let choices = order.iter().map(|t| format!("C\t{t}\t{}", chosen[*t as usize]));
+    let choices: Vec<String> = choices.collect();
+    let deadlines = deadlines(random, &[&lines[..], &choices].concat());
+    lines.extend(deadlines);
+    lines.extend(choices);
+    lines
+}
+
+/// D lines for sound lines without any: of all tasks, of some or of none.
+fn deadlines(random: &mut Random, lines: &[String]) -> Vec<String> {
+    let rarity = random.pick(&[1, 1, 2, 2, 5, u64::MAX]);
+    let run = read(&join(lines)).and_then(|(plan, constraint)| {
+        let run = bound(&plan, &constraint)?;
+        Ok(run.finishes[..plan.tasks as usize].to_vec())
+    });
+    let deadlines = inputs::deadlines(random, &run.expect("a plan that is accepted"));
+    let mut lines: Vec<String> =
+        deadlines.iter().enumerate().map(|(t, deadline)| format!("D\t{t}\t{deadline}")).collect();
+    lines.retain(|_| random.once_in(rarity));
+    if random.once_in(2) {
+        random.shuffle(&mut lines);
+    }
+    lines
+}
+
+/// As many tasks as may be, one after the other: the last as late as may be with the earliest
+/// deadline, or the first as early as may be with the latest.
+fn extreme_lines(random: &mut Random) -> Vec<String> {
+    let mut order: Vec<usize> = (0..TASKS).collect();
+    random.shuffle(&mut order);
+    let (worst, task, deadline) = match random.once_in(2) {
+        true => (LONGEST_TIME, order[TASKS - 1], 1),
+        false => (1, order[0], LATEST_DEADLINE),
+    };
+    let mut lines = vec!["U\t0\t1".to_string()];
+    lines.extend((0..TASKS).map(|t| format!("T\t{t}\t0\t1\t{worst}")));
+    lines.push(format!("D\t{task}\t{deadline}"));
+    lines.extend(order.iter().map(|t| format!("C\t{t}\t0")));
     lines
 }
 
@@ -88,6 +138,89 @@ fn arrows(random: &mut Random, order: &[u64]) -> Vec<String> {
     arrows
 }
 
+/// Makes sound lines faulty by one D line, mostly where D lines stand.
+fn refused_deadline(random: &mut Random, lines: &mut Vec<String>) {
+    let Ok((plan, _)) = read(&join(lines)) else { return };
+    let first_of = |letter| lines.iter().position(|line| line.starts_with(letter));
+    let end = first_of('C').unwrap_or(lines.len());
+    let others = first_of('D').unwrap_or(end);
+    let task = random.below(plan.tasks);
+    let [line, again] = [0; 2].map(|_| format!("D\t{task}\t{}", inputs::deadline(random, 1)));
+    match random.below(8) {
+        // Two of one task.
+        0 => drop(lines.splice(end..end, [line, again])),
+        // After a C line.
+        1 => lines.insert(random.from(end as u64 + 1, lines.len() as u64) as usize, line),
+        // Before a line of an earlier kind.
+        2 => {
+            let other = lines[random.below(others as u64) as usize].clone();
+            let first = (others == end).then_some(line);
+            drop(lines.splice(end..end, first.into_iter().chain([other])));
+        }
+        _ => {
+            let anywhere = random.below(lines.len() as u64) as usize;
+            let at = random.pick(&[end, end, end, end, anywhere]);
+            lines.insert(at, faulty_deadline(random, plan.tasks));
+            if random.once_in(3) {
+                lines.insert(plan.types as usize, last_task());
+            }
+        }
+    }
+}
+
+/// A T line after which every absent task is below one with times.
+fn last_task() -> String {
+    format!("T\t{}\t0\t1\t1", TASKS - 1)
+}
+
+/// A D line with another form, a number out of range or an absent task.
+fn faulty_deadline(random: &mut Random, tasks: u64) -> String {
+    let (most_tasks, last) = (TASKS as u64, u64::from(LATEST_DEADLINE));
+    let (task, deadline) = (random.below(tasks), inputs::deadline(random, 1));
+    let greatest = "9".repeat(DIGITS).parse().unwrap_or(last + 1);
+    match random.below(5) {
+        0 => odd_deadline(random),
+        1 => format!("D\t{}\t{deadline}", random.pick(&[most_tasks, most_tasks + 1, greatest])),
+        2 => format!("D\t{task}\t0"),
+        3 => format!("D\t{task}\t{}", random.pick(&[last + 1, last + 2, greatest])),
+        _ => format!("D\t{}\t{deadline}", random.from(tasks.min(most_tasks - 1), most_tasks - 1)),
+    }
+}
+
+/// A line with the letter D that has not the form of a D line.
+fn odd_deadline(random: &mut Random) -> String {
+    let lines = [
+        "D", "D\t", "D\t0", "D\t0\t", "D\t\t1", "D\t0\t1\t", "D\t0\t1\t1", "D\t00\t1", "D\t0\t01",
+        "D\t0\t-1", "D\t0\t+1", "D\t0\t1 ", "D\t0\t1\r", "D 0 1", "D\t0 1", "D0\t1", "DD\t0\t1",
+    ];
+    let long = format!("D\t0\t1{}", "0".repeat(DIGITS));
+    let at = random.below(lines.len() as u64 + 1) as usize;
+    lines.get(at).map_or(long, |line| line.to_string())
+}
+
+/// Makes sound lines such that they are read and the check refuses: some tasks have no times, one
+/// is left out of the order, has a type that it cannot use, or has a predecessor later on.
+fn refused_plan(random: &mut Random, lines: &mut Vec<String>) {
+    let Ok((plan, constraint)) = read(&join(lines)) else { return };
+    let start = lines.len() - plan.tasks as usize;
+    let p = random.below(plan.tasks) as usize;
+    let task = constraint.task[p];
+    match random.below(4) {
+        0 => lines.insert(plan.types as usize, last_task()),
+        1 => drop(lines.remove(start + p)),
+        2 => {
+            let unusable = (0..TYPES).find(|&y| plan.best[pair(task as usize, y)] == 0);
+            lines[start + p] = format!("C\t{task}\t{}", unusable.unwrap_or(0));
+        }
+        // The last of the order is its own predecessor: that is not read.
+        _ => {
+            let later = constraint.task[random.from(p as u64, plan.tasks - 1) as usize];
+            let end = lines.iter().position(|line| line.starts_with(['D', 'C']));
+            lines.insert(end.unwrap_or(start), format!("A\t{later}\t{task}"));
+        }
+    }
+}
+
 fn damage_lines(random: &mut Random, lines: &mut Vec<String>) {
     if lines.is_empty() {
         return;
@@ -96,7 +229,7 @@ fn damage_lines(random: &mut Random, lines: &mut Vec<String>) {
     let at = random.from(first as u64, end as u64 - 1) as usize;
     let other = random.from(first as u64, end as u64 - 1) as usize;
     let anywhere = random.below(lines.len() as u64) as usize;
-    match random.below(16) {
+    match random.below(17) {
         0 | 1 => lines.swap(at, other),
         2 => lines.swap(at, anywhere),
         3 => drop(lines.remove(at)),
@@ -112,15 +245,15 @@ fn damage_lines(random: &mut Random, lines: &mut Vec<String>) {
             lines[at].push_str(more);
         }
         9 if random.once_in(4) => lines.clear(),
-        10 | 11 => swap_fields(&mut lines[at]),
-        12 => lines.truncate(at),
+        10..=12 => swap_fields(&mut lines[at]),
+        13 => lines.truncate(at),
         _ => damage_field(random, lines.get_mut(at)),
     }
 }
 
 /// The lines of one kind: the first, and the one after the last.
 fn random_block(random: &mut Random, lines: &[String]) -> (usize, usize) {
-    let letter = random.pick(&["U", "T", "A", "C"]);
+    let letter = random.pick(&["U", "T", "A", "D", "C"]);
     let of_kind = |line: &String| line.starts_with(letter);
     match lines.iter().position(of_kind) {
         Some(first) => (first, lines.iter().rposition(of_kind).unwrap_or(first) + 1),
@@ -147,7 +280,7 @@ fn damage_field(random: &mut Random, line: Option<&mut String>) {
     let at = random.below(parts.len() as u64) as usize;
     parts[at] = match random.below(4) {
         0 | 1 => odd_field(random),
-        2 if at == 0 => random.pick(&["U", "T", "A", "C", "R", "u", "TT"]).to_string(),
+        2 if at == 0 => random.pick(&["U", "T", "A", "D", "C", "R", "u", "TT"]).to_string(),
         _ => random.below(9).to_string(),
     };
     *line = parts.join("\t");
@@ -169,7 +302,7 @@ fn damage_bytes(random: &mut Random, bytes: &mut Vec<u8>) {
         return;
     }
     let at = random.below(bytes.len() as u64) as usize;
-    let byte = random.pick(b"0123456789\t\n\rUTAC x#\x00\xff");
+    let byte = random.pick(b"0123456789\t\n\rUTADC x#\x00\xff");
     match random.below(5) {
         0 => bytes[at] = byte,
         1 => bytes.insert(at, byte),
@@ -181,7 +314,15 @@ fn damage_bytes(random: &mut Random, bytes: &mut Vec<u8>) {
 
 /// A text as long as may be, or a byte less or up to two more, in which every line can be read.
 fn long_text(random: &mut Random) -> Vec<u8> {
-    text_of_length(LONGEST_TEXT - 1 + random.below(4) as usize)
+    let length = LONGEST_TEXT - 1 + random.below(4) as usize;
+    if random.once_in(2) {
+        return text_of_length(length);
+    }
+    let deadline = |t| format!("D\t{t}\t{}\n", inputs::deadline(random, 1));
+    let deadlines: String = (0..TASKS).map(deadline).collect();
+    let mut text = text_of_length(length - deadlines.len());
+    text.extend(deadlines.bytes());
+    text
 }
 
 /// All pairs, then arrows (round in circles too) up to this length.

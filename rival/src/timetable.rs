@@ -50,6 +50,6 @@ pub fn program(text: &[u8]) -> Vec<u8> {
         .and_then(|(plan, constraint)| of_worst_times(&plan, &constraint, &mut buffer));
     match answer {
         Ok(written) => buffer[..written as usize].to_vec(),
-        Err(Refusal { number, place }) => format!("refused\t{number}\t{place}\n").into_bytes(),
+        Err(refusal) => refusal.line().into_bytes(),
     }
 }

@@ -1,5 +1,6 @@
 //! Sessions of the driver, answer by answer, on plan A of document 01.
 use rival::driver::{session, LONGEST_LIST, MOST_ROOM, TOO_LONG};
+use rival::limits::TASKS;
 use rival::reached::*;
 
 const PLAN_A: &str = include_str!("../../examples/plan-a.txt");
@@ -105,6 +106,71 @@ fn as_many_as_may_be() {
     assert_eq!(answer(&format!("Y\t{}", MOST_ROOM + 1)), "bad");
 }
 
+/// An answer to `D`: number and place, any, least and task, the first margins, then zeros.
+fn margins(first: &str, margins: &[i64]) -> String {
+    let margin = |t| format!("\t{}", margins.get(t).unwrap_or(&0));
+    format!("margins\t{first}{}", (0..TASKS).map(margin).collect::<String>())
+}
+
+/// The worst finishes are 2, 5, 6, 8 and 8.
+#[test]
+fn margins_of_deadlines() {
+    assert_eq!(answer("D"), margins("0\t0\t0\t0\t0", &[]));
+    let lines = ["P\t14\t1\t9", "D", "P\t14\t4\t10", "D", "P\t14\t3\t1", "D", "P\t14\t3\t0", "D"];
+    let lines = answers(PLAN_A, &lines);
+    assert_eq!([0, 2, 4, 6].map(|i| &lines[i][..]), ["put"; 4]);
+    assert_eq!(lines[1], margins("0\t0\t1\t4\t1", &[0, 4]));
+    assert_eq!(lines[3], margins("0\t0\t1\t2\t4", &[0, 4, 0, 0, 2]));
+    assert_eq!(lines[5], margins("0\t0\t1\t-7\t3", &[0, 4, 0, -7, 2]));
+    assert_eq!(lines[7], lines[3]);
+}
+
+#[test]
+fn refused_margins() {
+    let refused = |first: &str| margins(&format!("{first}\t0\t0\t0"), &[]);
+    let after = |line: &str| answers(PLAN_A, &["P\t14\t0\t3", line, "D"])[2].clone();
+    assert_eq!(answers("", &["D"]), [refused("8\t0")]);
+    assert_eq!(after("P\t14\t1\t65536"), refused("8\t0"));
+    assert_eq!(after("P\t14\t5\t1"), refused("8\t0"));
+    assert_eq!(after("P\t6\t0\t4"), refused("9\t4"));
+    assert_eq!(after("P\t8\t1\t1"), refused("10\t1"));
+    assert_eq!(after("P\t5\t2\t16"), refused("11\t2"));
+    assert_eq!(after("P\t14\t5\t0"), margins("0\t0\t1\t1\t0", &[1]));
+}
+
+/// A refused text leaves no deadlines.
+#[test]
+fn deadlines_of_a_refused_text() {
+    let text = "U\t0\t1\nT\t0\t0\t1\t1\nD\t0\t1\nD\t0\t1\n";
+    let puts = [0, 1, 2, 3, 4, 6].map(|part| format!("P\t{part}\t0\t1\n")).concat();
+    let input = format!("{}\n{text}{puts}D\n", text.len());
+    let out = String::from_utf8(session(input.as_bytes()).out).unwrap();
+    let expected = format!("read\t7\t4\n{}{}\n", "put\n".repeat(6), margins("0\t0\t0\t0\t0", &[]));
+    assert_eq!(out, expected);
+}
+
+/// `P` puts deadlines of the kept plan, `R` those of the kept state's plan.
+#[test]
+fn deadlines_of_plan_and_state() {
+    let lines = answers(PLAN_A, &["S", "P\t14\t0\t65536", "T\t1", "K", "S"]);
+    assert_eq!(lines, ["start\t0\t0\t1", "put", "tick\t0\t0\t6", "check\t8\t0", "start\t8\t0\t0"]);
+    let lines = answers(PLAN_A, &["S", "R\t14\t0\t65536", "T\t1", "K", "R\t14\t0\t65535", "T\t1"]);
+    assert_eq!(lines[1..], ["put", "tick\t12\t0\t0", "check\t0\t0", "put", "tick\t0\t0\t6"]);
+    let lines = answers(PLAN_A, &["S", "R\t14\t63\t1", "T\t1", "R\t14\t63\t0", "T\t1"]);
+    assert_eq!(lines[1..], ["put", "tick\t12\t0\t0", "put", "tick\t0\t0\t6"]);
+}
+
+#[test]
+fn bad_deadlines() {
+    for line in ["D\t", "D\t0", "d", "DD", "P\t14\t64\t0", "R\t14\t64\t0", "P\t14\t0", "P\t15\t0\t0", "R\t15\t0\t0"] {
+        assert_eq!(answer(line), "bad");
+    }
+    for line in ["P\t14\t0\t4294967296", "R\t14\t0\t4294967296", "P\t13\t0\t0", "P\t14\t0\t-1"] {
+        assert_eq!(answer(line), "bad");
+    }
+    assert_eq!(answer("P\t14\t63\t4294967295"), "put");
+}
+
 #[test]
 fn bad_lines() {
     for line in ["Y", "Y\t", "Y\t1\t", "Y\t1\t4294967296", "Z\t", "Z\t1\t", "Z\tx", "Z\t18446744073709551616", "y\t1", "z"] {
@@ -167,4 +233,108 @@ fn the_unused_number() {
     let mut reached = Reached::default();
     reached.note("T", 15);
     assert!(reached.faults().contains(&"given: 15".to_string()));
+}
+
+/// What a session of these commands after plan A reached.
+fn reached(commands: &[&str]) -> Reached {
+    let input = format!("{}\n{PLAN_A}{}\n", PLAN_A.len(), commands.join("\n"));
+    session(input.as_bytes()).reached
+}
+
+/// The cases of margins that these deadlines are, by task.
+fn margin_cases(deadlines: &[u64]) -> Vec<Case> {
+    let put = |(t, deadline)| format!("P\t14\t{t}\t{deadline}");
+    let mut commands: Vec<String> = deadlines.iter().enumerate().map(put).collect();
+    commands.push("D".to_string());
+    let reached = reached(&commands.iter().map(String::as_str).collect::<Vec<_>>());
+    assert_eq!(reached.times("D", 0), 1);
+    MARGINS.into_iter().filter(|&case| reached.times_of_case("D", case) == 1).collect()
+}
+
+#[test]
+fn cases_of_margins() {
+    assert_eq!(margin_cases(&[]), [NO_DEADLINES]);
+    assert_eq!(margin_cases(&[1]), [LEAST_BELOW_ZERO]);
+    assert_eq!(margin_cases(&[2]), [LEAST_ZERO]);
+    assert_eq!(margin_cases(&[3]), [LEAST_ABOVE_ZERO, LESS_WITHOUT]);
+    assert_eq!(margin_cases(&[3, 7, 8, 10, 11]), [LEAST_ABOVE_ZERO]);
+    assert_eq!(margin_cases(&[3, 6, 8, 10, 11]), [LEAST_ABOVE_ZERO, LEAST_OF_SEVERAL]);
+    assert_eq!(margin_cases(&[2, 5]), [LEAST_ZERO, LEAST_OF_SEVERAL]);
+    assert_eq!(margin_cases(&[3, 3, 3]), [LEAST_BELOW_ZERO]);
+}
+
+/// All tasks one after the other, with these worst times, and one D line.
+#[test]
+fn cases_of_the_ends() {
+    let case = |worst: u32, line: &str| {
+        let times: String = (0..TASKS).map(|t| format!("T\t{t}\t0\t1\t{worst}\n")).collect();
+        let choices: String = (0..TASKS).map(|t| format!("C\t{t}\t0\n")).collect();
+        let mut reached = Reached::default();
+        reached.note_program(format!("U\t0\t1\n{times}{line}\n{choices}").as_bytes());
+        assert_eq!(reached.times(TEXT, 0), 1);
+        [LEAST_OF_ALL, GREATEST_OF_ALL].map(|case| reached.times_of_case(TEXT, case))
+    };
+    assert_eq!(case(65_535, "D\t63\t1"), [1, 0]);
+    assert_eq!(case(65_535, "D\t63\t2"), [0, 0]);
+    assert_eq!(case(65_534, "D\t63\t1"), [0, 0]);
+    assert_eq!(case(1, "D\t0\t65535"), [0, 1]);
+    assert_eq!(case(1, "D\t0\t65534"), [0, 0]);
+    assert_eq!(case(1, "D\t1\t65535"), [0, 0]);
+}
+
+/// Only if nothing else is wrong, and with both faults neither.
+#[test]
+fn cases_of_wrong_deadlines() {
+    let cases = [DEADLINE_ABOVE, DEADLINE_ABSENT];
+    let times = |commands: &[&str]| cases.map(|case| reached(commands).times_of_case("K", case));
+    assert_eq!(times(&["P\t14\t0\t65536", "K"]), [1, 0]);
+    assert_eq!(times(&["P\t14\t5\t65535", "K"]), [0, 1]);
+    assert_eq!(times(&["P\t14\t5\t65536", "K"]), [0, 0]);
+    assert_eq!(times(&["P\t14\t0\t65536", "P\t1\t0\t0", "K"]), [0, 0]);
+    assert_eq!(times(&["P\t14\t0\t65535", "P\t1\t0\t0", "K"]), [0, 0]);
+    let cases = [UNSOUND_ABOVE, UNSOUND_ABSENT];
+    let times = |commands: &[&str]| cases.map(|case| reached(commands).times_of_case("T", case));
+    assert_eq!(times(&["S", "R\t14\t0\t65536", "T\t1"]), [1, 0]);
+    assert_eq!(times(&["S", "R\t14\t5\t1", "T\t1"]), [0, 1]);
+    assert_eq!(times(&["S", "R\t14\t5\t1", "R\t9\t0\t2", "T\t1"]), [0, 0]);
+}
+
+#[test]
+fn cases_of_d_lines() {
+    let case = |lines: &str| {
+        let text = format!("U\t0\t1\nT\t0\t0\t1\t1\n{lines}\n");
+        let reached = session(format!("{}\n{text}", text.len()).as_bytes()).reached;
+        let of_text = |case: &Case| reached.times_of_case(TEXT, *case) == 1;
+        LINES.into_iter().filter(of_text).collect::<Vec<Case>>()
+    };
+    assert_eq!(case("D\t0"), [D_LINE_FORM]);
+    assert_eq!(case("D\t64\t0"), [D_LINE_TASK]);
+    assert_eq!(case("D\t0\t0"), [D_LINE_OF_0]);
+    assert_eq!(case("D\t0\t65536"), [D_LINE_ABOVE]);
+    assert_eq!(case("C\t0\t0\nD\t0\t1"), [D_LINE_KIND]);
+    assert_eq!(case("D\t1\t1"), [D_LINE_UNKNOWN]);
+    assert_eq!(case("D\t0\t1\nD\t0\t1"), [D_LINE_AGAIN]);
+    assert_eq!(case("D\t0\t1\nU\t1\t1"), [AFTER_D_LINE]);
+    for other in ["D\t0\t1", "A\t0", "A\t64\t0", "C\t1\t0", "C\t0\t0\nC\t0\t0", "C\t0\t0\nU\t1\t1"] {
+        assert_eq!(case(other), []);
+    }
+}
+
+/// All margins are asked of `D`, all refusals by a D line of the text.
+#[test]
+fn cases_that_are_asked() {
+    let faults = Reached::default().faults();
+    let texts = Reached::default().faults_of_texts();
+    for (number, words) in LINES {
+        assert!(faults.contains(&format!("never reached: {number} {words} by text")));
+        assert!(texts.contains(&format!("never reached: {number} {words} by text")));
+    }
+    for (number, words) in MARGINS {
+        assert!(faults.contains(&format!("never reached: {number} {words} by D")));
+        assert!(texts.contains(&format!("never reached: {number} {words} by text")));
+    }
+    for number in [0, 8, 9, 10, 11] {
+        assert!(faults.contains(&format!("never reached: {number} by D")));
+        assert!(texts.contains(&format!("never reached: {number} by text")));
+    }
 }

@@ -5,7 +5,7 @@ use rival::inputs::{reports, some_report, EDGES};
 use rival::limits::*;
 use rival::plan::*;
 use rival::random::Random;
-use rival::reached::Reached;
+use rival::reached::{self, Case, Reached, TEXT};
 use rival::state::{start, State};
 use rival::texts::{self, sound_plan};
 
@@ -23,6 +23,12 @@ impl Met {
             assert!(self.0.total(number) > 0, "refusal {number} was never met");
         }
     }
+
+    fn cases(&self, command: &str, cases: &[Case]) {
+        for &case in cases {
+            assert!(self.0.times_of_case(command, case) > 0, "{case:?} was never met");
+        }
+    }
 }
 
 #[test]
@@ -33,8 +39,10 @@ fn read() {
         let plain = rival::reader::read(&text);
         assert_eq!(plain, fast::read(&text));
         met.note(&plain);
+        met.0.note_text(&text, &plain);
     }
     met.all(&[0, 1, 2, 3, 4, 5, 6, 7]);
+    met.cases(TEXT, &reached::LINES);
 }
 
 /// Puts something else in one place.
@@ -44,7 +52,7 @@ fn damage(random: &mut Random, plan: &mut Plan, constraint: &mut Constraint) {
     let reach = if random.once_in(4) { most } else { plan.tasks.clamp(1, most) };
     let (p, q) = (random.below(reach) as usize, random.below(reach) as usize);
     let kind = random.below(TYPES as u64) as usize;
-    match random.below(14) {
+    match random.below(16) {
         0 => plan.types = value,
         1 => plan.tasks = value,
         2 => plan.units[kind] = value as u32,
@@ -60,6 +68,8 @@ fn damage(random: &mut Random, plan: &mut Plan, constraint: &mut Constraint) {
         10 => constraint.task[p] = value,
         11 => constraint.task[p] = constraint.task[q],
         12 => constraint.kind[p] = kind as u64,
+        13 => plan.deadlines[p] = value as u32,
+        14 => plan.deadlines[random.below(most) as usize] = 1,
         _ => {
             constraint.task.swap(p, q);
             constraint.kind.swap(p, q);
@@ -80,9 +90,34 @@ fn check() {
             let plain = rival::check::check(&plan, &constraint);
             assert_eq!(plain, fast::check(&plan, &constraint));
             met.note(&plain);
+            if plain.is_err() {
+                met.0.note_plan("", &plan);
+            }
         }
     }
     met.all(&[0, 8, 9, 10, 11]);
+    met.cases("", &reached::DEADLINES);
+}
+
+#[test]
+fn margins() {
+    let (mut random, mut met) = (Random::new(5), Met::default());
+    for _ in 0..2_000 {
+        let Ok((mut plan, mut constraint)) = rival::reader::read(&texts::text(&mut random)) else {
+            continue;
+        };
+        if random.once_in(4) {
+            damage(&mut random, &mut plan, &mut constraint);
+        }
+        let plain = rival::margins::margins(&plan, &constraint);
+        assert_eq!(plain, fast::margins(&plan, &constraint));
+        met.note(&plain);
+        if let Ok(plain) = &plain {
+            met.0.note_margins("", &plan, plain);
+        }
+    }
+    met.all(&[0, 8, 9, 10, 11]);
+    met.cases("", &reached::MARGINS);
 }
 
 /// A session of the generator: the text, then commands.
@@ -113,6 +148,11 @@ fn compare(driver: &Driver, command: &[u8], met: &mut Met) {
             assert_eq!(plain, fast::simulate(plan, constraint, &times));
             met.note(&plain);
         }
+        Some(b'D') => {
+            let plain = rival::margins::margins(plan, constraint);
+            assert_eq!(plain, fast::margins(plan, constraint));
+            met.note(&plain);
+        }
         Some(b'T') => {
             let Some(&[report]) = fields::<u64>(command).as_deref() else { return };
             let plain = driver.state.clone().tick(report);
@@ -124,7 +164,7 @@ fn compare(driver: &Driver, command: &[u8], met: &mut Met) {
 }
 
 #[test]
-fn start_simulate_and_tick() {
+fn start_simulate_margins_and_tick() {
     let mut met = Met::default();
     for number in 0..70 {
         let (input, _) = rival::generate::session(1, number);

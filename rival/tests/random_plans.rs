@@ -2,6 +2,7 @@
 use rival::journal::{Journal, Progress};
 use rival::inputs::{allowed_times, some_report};
 use rival::limits::*;
+use rival::margins::margins;
 use rival::plan::*;
 use rival::random::Random;
 use rival::simulate::{bound, simulate};
@@ -71,6 +72,42 @@ fn ticks_are_the_journals() {
             same_notes(&state, &journal);
         }
     }
+}
+
+/// The book of a run in which every task takes its worst time: what is left until each deadline,
+/// and no margin of a task with a deadline is less than the least, nor as small for a lower task.
+#[test]
+fn margins_are_the_journals() {
+    let (mut random, mut compared) = (Random::new(6), 0);
+    for _ in 0..500 {
+        let (plan, constraint) = sound_plan(&mut random);
+        if bound(&plan, &constraint).unwrap().response > 500 {
+            continue;
+        }
+        let (mut journal, _) = Journal::open(&plan, &constraint);
+        let worst = rival::simulate::worst_times(&plan, &constraint);
+        while journal.tasks(Progress::Finished).len() < plan.tasks as usize {
+            let up = |t: &usize| journal.start[*t].unwrap() + worst[*t] == journal.instant + 1;
+            let running = journal.tasks(Progress::Running).into_iter();
+            let report = running.filter(up).fold(0, |set, t| set | 1 << t);
+            assert!(journal.report(report).is_ok());
+        }
+        let answer = margins(&plan, &constraint).unwrap();
+        assert_eq!(answer.any, plan.deadlines != [0; TASKS]);
+        for t in 0..TASKS {
+            let (deadline, margin) = (i64::from(plan.deadlines[t]), answer.margins[t]);
+            if deadline == 0 {
+                assert_eq!(margin, 0);
+                continue;
+            }
+            assert_eq!(i64::from(journal.finish[t].unwrap()) + margin, deadline);
+            assert!((margin, t as u64) >= (answer.least, answer.task));
+        }
+        assert_eq!(answer.margins[answer.task as usize], answer.least);
+        assert!(!answer.any || plan.deadlines[answer.task as usize] != 0);
+        compared += u64::from(answer.any);
+    }
+    assert!(compared > 100);
 }
 
 /// No time is longer in the first run, so at every instant every task is at least as far in it.

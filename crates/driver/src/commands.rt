@@ -104,6 +104,7 @@ fn bare(k: Kept, letter: u8) -> Kept {
     match letter {
         b'K' => check(k),
         b'B' => bound(k),
+        b'D' => margins(k),
         b'S' => start(k),
         b'Q' => state(k),
         _ => neither(k),
@@ -139,6 +140,20 @@ fn check(k: Kept) -> Kept {
 fn bound(k: Kept) -> Kept {
     let s = simulation::bound(k.plan, k.constraint);
     output::write_valued(b"bound", s.number, s.place, s.response as u64);
+    k
+}
+
+fn margins(k: Kept) -> Kept {
+    let r = slack::slacks_of(k.plan, k.constraint);
+    let slacks = r.slacks;
+    let any = if r.any { 1 } else { 0 };
+    let mut out = [0u8; output::WIDTH];
+    let a = output::put_verdict(&mut out, b"margins", r.number, r.place);
+    let b = output::put_number(&mut out, a, any);
+    let c = output::put_signed(&mut out, b, r.least);
+    let d = output::put_number(&mut out, c, r.task as u64);
+    let e = output::put_each_signed(&mut out, d, &slacks);
+    output::write_line(&mut out, e);
     k
 }
 
@@ -298,7 +313,7 @@ fn put_ticks(
 }
 
 fn put_kept(k: Kept, part: u64, i: usize, value: u64) -> Kept {
-    if put::PLAN_PARTS <= part {
+    if !put::is_plan_part(part) {
         return neither(k);
     }
     let plan = put::into_plan(k.plan, part, i, value);

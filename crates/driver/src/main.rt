@@ -6,6 +6,8 @@
 //   K                check number place
 //   B                bound number place response
 //   M times          simulate number place response, then the start and finish of tasks 0 to 63; 0 to 80 times
+//   D                margins number place any least task, then the margin of tasks 0 to 63; any is 1 or 0, and a number below
+//                    zero is - and digits
 //   S                start number place started
 //   T report         tick number place started
 //   Q                state instant started finished, then the start and finish of tasks 0 to 63
@@ -16,8 +18,9 @@
 //   P part i value   put: a value into the kept plan or constraint
 //   R part i value   put: a value into the run state, or into its own plan or constraint
 //
-// Parts: 0 types, 1 units, 2 tasks, 3 best, 4 worst, 5 predecessors, 6 length, 7 an entry's task, 8 an entry's type; for R
-// also 9 instant, 10 count of started, 11 finished set, 12 starts, 13 finishes. The index is 0 where the part is one number.
+// Parts: 0 types, 1 units, 2 tasks, 3 best, 4 worst, 5 predecessors, 6 length, 7 an entry's task, 8 an entry's type,
+// 14 deadlines; for R also 9 instant, 10 count of started, 11 finished set, 12 starts, 13 finishes. The index is 0 where the
+// part is one number.
 // Any other line answers bad and changes nothing; so does a line of 1,024 bytes or more, as one line. A first line that is
 // no count answers bad, and no text is read. Input is read in pieces of 65,536 bytes: an answer may wait for later commands.
 mod commands;

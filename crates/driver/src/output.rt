@@ -32,6 +32,28 @@ pub fn put_number(out: &mut [u8; WIDTH], at: usize, n: u64) -> usize {
     put_text(out, end, &digits[..k])
 }
 
+// A tab and a number that may be below zero.
+pub fn put_signed(out: &mut [u8; WIDTH], at: usize, x: i64) -> usize {
+    if 0 <= x {
+        return put_number(out, at, slack::magnitude(x) as u64);
+    }
+    let mut digits = [0u8; 20];
+    let k = io::decimal(slack::magnitude(x) as u64, &mut digits);
+    let end = put_text(out, at, b"\t-");
+    put_text(out, end, &digits[..k])
+}
+
+pub fn put_each_signed(out: &mut [u8; WIDTH], at: usize, values: &[i64; MOST_TASKS]) -> usize {
+    let mut end = at;
+    let mut t = 0;
+    while t < MOST_TASKS {
+        let x = values[t];
+        end = put_signed(out, end, x);
+        t += 1;
+    }
+    end
+}
+
 fn wide(x: u32) -> u64 {
     x as u64
 }

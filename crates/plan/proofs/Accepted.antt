@@ -10,10 +10,10 @@ use Rattle.task_set.specs.Sets.{width, has}
 use Rattle.task_set.proofs.Truth.{or-left-off, or-right-off}
 use Rattle.plan.specs.declared.Plan.{Plan}
 use Rattle.plan.specs.declared.Constraint.{Constraint}
-use Rattle.plan.specs.Rules.{mostTypes, mostUnits, mostTasks, timeOf, predecessorsOf, planOk}
+use Rattle.plan.specs.Rules.{mostTypes, mostUnits, mostTasks, latestDeadline, timeOf, predecessorsOf, deadlineOf, planOk}
 use Rattle.plan.specs.Refusals.{entryAt, unusable, verdict}
 use Rattle.plan.specs.Steps.{Positions}
-use Rattle.plan.proofs.Kept.{Times, some-types, few-types, some-tasks, few-tasks, some-units, few-units, usable-times}
+use Rattle.plan.proofs.Kept.{Times, some-types, few-types, some-tasks, few-tasks, due-task, some-units, few-units, usable-times}
 use Rattle.plan.proofs.Arranged.{low, once, somewhere, before}
 use Rattle.plan.proofs.Verdicts.{Passed, passed}
 
@@ -38,6 +38,8 @@ pub record Accepted (p : Plan) (c : Constraint) : Type 0 where
   -- predecessors stand earlier
   pub earlier : (i u : ℕ) → i < p .tasks → u < width → has (predecessorsOf (p .predecessors) (entryAt (c .order) i)) u ≡ true
       → (j : ℕ) × (j < i) × (entryAt (c .order) j ≡ u)
+  -- only tasks of the plan have deadlines, and these are in range
+  pub due : (t : ℕ) → 0 < deadlineOf (p .deadlines) t → (t < p .tasks) × (deadlineOf (p .deadlines) t ≤ latestDeadline)
 
 pub accepted : (p : Plan) (c : Constraint) → verdict p c .number ≡ 0 → Accepted p c
 unfolding unusable
@@ -58,6 +60,7 @@ accepted p c e =
           usable-times p kept (entryAt (c .order) i) (low (p .tasks) (c .order) (q .placed) i l) (entryAt (c .chosen) i)
           (type i l)
           (not-false _ (or-right-off (leb (p .types) (entryAt (c .chosen) i)) _ (q .usable i l)));
+      due = due-task p kept;
       earlier = λ i u l. before p kept (c .order) (q .placed) i l (q .ordered i l) u;
     }
   where

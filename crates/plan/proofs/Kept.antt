@@ -1,7 +1,7 @@
 -- What a plan that breaks no rule gives. Assumes nothing.
 use mathlib.Core.Path.{_≡_, sym, _∙_}
 use mathlib.Core.Bool.{Bool, true, false, _&&_, _||_, not, or-false}
-use mathlib.Core.Logic.{_⊎_, inl, inr}
+use mathlib.Core.Logic.{_⊎_, inl, inr, ⊎-elim}
 use Prim.Native.Nat.{ℕ, _≤_, _<_}
 use native.Mathlib.Nat.{lt-of-lt-of-le}
 use native.Mathlib.Omega.{arith}
@@ -10,10 +10,10 @@ use lib.Dec.{eqb, leb, ltb}
 use lib.ListN.{getD}
 use Rattle.task_set.specs.Bounded.{all, implies}
 use Rattle.task_set.specs.Sets.{width, has}
-use Rattle.task_set.proofs.Truth.{and-left, and-right, or-cases, implies-elim}
+use Rattle.task_set.proofs.Truth.{by-test, and-left, and-right, or-cases, implies-elim}
 use Rattle.task_set.proofs.Bounded.{all-elim}
 use Rattle.plan.specs.declared.Plan.{Plan}
-use Rattle.plan.specs.Rules.{mostTypes, mostUnits, mostTasks, longestTime, between, timeOf, predecessorsOf, usable, countsOk, unitsOk, pairOk, pairsOk, someTypeOk, predecessorsOk, taskOk, planOk}
+use Rattle.plan.specs.Rules.{mostTypes, mostUnits, mostTasks, longestTime, latestDeadline, between, timeOf, predecessorsOf, deadlineOf, usable, countsOk, unitsOk, pairOk, pairsOk, someTypeOk, predecessorsOk, taskOk, deadlineOk, planOk}
 
 -- a rule for present things and one for absent ones, at a present thing
 at-present : (here a b : Bool) → (here && a) || (not here && b) ≡ true → here ≡ true → a ≡ true
@@ -60,13 +60,19 @@ module _ (p : Plan) (e : planOk p ≡ true) where
   abbrev tasks-rule : Bool
   tasks-rule = all mostTasks (taskOk (p .types) (p .tasks) (p .bcet) (p .wcet) (p .predecessors))
 
+  abbrev deadlines-rule : Bool
+  deadlines-rule = all mostTasks (deadlineOk (p .tasks) (p .deadlines))
+
   counts : countsOk (p .types) (p .tasks) ≡ true
   unfolding planOk
-  counts = and-left (countsOk (p .types) (p .tasks)) (units-rule && tasks-rule) e
+  counts = and-left (countsOk (p .types) (p .tasks)) _ e
 
-  rest : units-rule && tasks-rule ≡ true
+  rest : units-rule && (tasks-rule && deadlines-rule) ≡ true
   unfolding planOk
-  rest = and-right (countsOk (p .types) (p .tasks)) (units-rule && tasks-rule) e
+  rest = and-right (countsOk (p .types) (p .tasks)) _ e
+
+  per-task : tasks-rule && deadlines-rule ≡ true
+  per-task = and-right units-rule _ rest
 
   pub some-types : 1 ≤ p .types
   unfolding countsOk
@@ -83,11 +89,29 @@ module _ (p : Plan) (e : planOk p ≡ true) where
   unfolding countsOk
   few-tasks = between-high 1 (p .tasks) mostTasks (and-right (between 1 (p .types) mostTypes) _ counts)
 
+  -- a task with a deadline is one of the plan, and the deadline is in range
+  pub due-task : (t : ℕ) → 0 < deadlineOf (p .deadlines) t
+      → (t < p .tasks) × (deadlineOf (p .deadlines) t ≤ latestDeadline)
+  unfolding deadlineOf deadlineOk
+  due-task t l = by-test (ltb t mostTasks) inside (λ e. absurd (omega (arith, rw e at l)))
+    where
+      d : ℕ
+      d = deadlineOf (p .deadlines) t
+
+      inside : ltb t mostTasks ≡ true → (t < p .tasks) × (d ≤ latestDeadline)
+      inside e =
+          let r = all-elim mostTasks _ (and-right tasks-rule deadlines-rule per-task) t (ltb-true t mostTasks e) in
+          ⊎-elim (λ z. absurd (omega (arith, eqb-true d 0 z)))
+          (λ q. (
+            ltb-true t (p .tasks) (and-left (ltb t (p .tasks)) _ q),
+            leb-true d latestDeadline (and-right (ltb t (p .tasks)) _ q),
+          )) (or-cases (eqb d 0) _ r)
+
   units-between : (k : ℕ) → k < p .types → between 1 (getD (p .units) k 0) mostUnits ≡ true
   unfolding unitsOk
   units-between k l =
       at-present (ltb k (p .types)) (between 1 (getD (p .units) k 0) mostUnits) _
-      (all-elim mostTypes (unitsOk (p .types) (p .units)) (and-left units-rule tasks-rule rest) k
+      (all-elim mostTypes (unitsOk (p .types) (p .units)) (and-left units-rule _ rest) k
       (lt-of-lt-of-le l few-types)) (lt-ltb k (p .types) l)
 
   pub some-units : (k : ℕ) → k < p .types → 1 ≤ getD (p .units) k 0
@@ -110,7 +134,7 @@ module _ (p : Plan) (e : planOk p ≡ true) where
     unfolding taskOk
     task-ok =
         all-elim mostTasks (taskOk (p .types) (p .tasks) (p .bcet) (p .wcet) (p .predecessors))
-        (and-right units-rule tasks-rule rest) t
+        (and-left tasks-rule deadlines-rule per-task) t
         (lt-of-lt-of-le present few-tasks)
 
     pub usable-times : (k : ℕ) → k < p .types → usable (p .wcet) t k ≡ true → Times (timeOf (p .bcet) t k) (timeOf (p .wcet) t k)

@@ -37,16 +37,26 @@ abbrev pub noRefusal : Verdict
 noRefusal = refused 0 0
 
 -- a plan and a constraint with these parts
-abbrev pub planOf : ℕ → List ℕ → ℕ → List ℕ → List ℕ → List ℕ → Plan
-planOf types units tasks bcet wcet predecessors =
-    record { types = types; units = units; tasks = tasks; bcet = bcet; wcet = wcet; predecessors = predecessors }
+abbrev pub planOf : ℕ → List ℕ → ℕ → List ℕ → List ℕ → List ℕ → List ℕ → Plan
+planOf types units tasks bcet wcet predecessors deadlines =
+    record {
+      types = types;
+      units = units;
+      tasks = tasks;
+      bcet = bcet;
+      wcet = wcet;
+      predecessors = predecessors;
+      deadlines = deadlines;
+    }
 
 abbrev pub constraintOf : ℕ → List ℕ → List ℕ → Constraint
 constraintOf len order chosen = record { len = len; order = order; chosen = chosen }
 
 -- "the rest of a refused answer is zeros"
 abbrev pub noPlan : Plan
-noPlan = planOf 0 (replicate mostTypes 0) 0 (replicate mostPairs 0) (replicate mostPairs 0) (replicate mostTasks 0)
+noPlan =
+    planOf 0 (replicate mostTypes 0) 0 (replicate mostPairs 0) (replicate mostPairs 0) (replicate mostTasks 0)
+    (replicate mostTasks 0)
 
 abbrev pub noConstraint : Constraint
 noConstraint = constraintOf 0 (replicate mostTasks 0) (replicate mostTasks 0)

@@ -25,6 +25,9 @@ mostPairs = mostTasks * mostTypes
 abbrev pub longestTime : ℕ
 longestTime = 65535
 
+abbrev pub latestDeadline : ℕ
+latestDeadline = 65535
+
 abbrev pub between : ℕ → ℕ → ℕ → Bool
 between a x b = leb a x && leb x b
 
@@ -45,6 +48,10 @@ pairPlace t k = cond (ltb t mostTasks && ltb k mostTypes) (pairIndex t k) mostPa
 -- "its predecessors as a set"; a number past the last task has none
 unfoldable pub predecessorsOf : List ℕ → ℕ → ℕ
 predecessorsOf predecessors t = cond (ltb t mostTasks) (getD predecessors t 0) 0
+
+-- its deadline (document 02, 2), 0 for none; a number past the last task has none
+unfoldable pub deadlineOf : List ℕ → ℕ → ℕ
+deadlineOf deadlines t = cond (ltb t mostTasks) (getD deadlines t 0) 0
 
 -- the task can use the type: the pair is not 0 and 0
 unfoldable pub usable : List ℕ → ℕ → ℕ → Bool
@@ -89,9 +96,16 @@ unfoldable pub taskOk : ℕ → ℕ → List ℕ → List ℕ → List ℕ → �
 taskOk types tasks bcet wcet predecessors t =
     pairsOk types tasks bcet wcet t && (someTypeOk tasks wcet t && predecessorsOk tasks predecessors t)
 
+-- "8 covers a deadline out of range or of an absent task, where 0 means none" (document 02, 2)
+unfoldable pub deadlineOk : ℕ → List ℕ → ℕ → Bool
+deadlineOk tasks deadlines t =
+    let d = deadlineOf deadlines t in
+    eqb d 0 || (ltb t tasks && leb d latestDeadline)
+
 -- the plan breaks no rule
 unfoldable pub planOk : Plan → Bool
 planOk p =
     countsOk (p .types) (p .tasks)
     && (all mostTypes (unitsOk (p .types) (p .units))
-    && all mostTasks (taskOk (p .types) (p .tasks) (p .bcet) (p .wcet) (p .predecessors)))
+    && (all mostTasks (taskOk (p .types) (p .tasks) (p .bcet) (p .wcet) (p .predecessors))
+    && all mostTasks (deadlineOk (p .tasks) (p .deadlines))))

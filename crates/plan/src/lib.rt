@@ -1,7 +1,7 @@
 // Plans and constraints, and the check that takes or refuses them (document 01, "The plan").
 ghost use mathlib.Core.Path.{_≡_};
 ghost use Rattle.plan.specs.Refusals.{noConstraint, noPlan};
-ghost use Rattle.plan.specs.Rules.{pairPlace, predecessorsOf, timeOf, usable};
+ghost use Rattle.plan.specs.Rules.{deadlineOf, pairPlace, predecessorsOf, timeOf, usable};
 
 mod order;
 mod rules;
@@ -19,7 +19,9 @@ pub const MOST_PAIRS: usize = MOST_TASKS * MOST_TYPES;
 
 pub const LONGEST_TIME: u32 = 65535;
 
-// Times are kept task by task: pair_index alone knows where one lies.
+pub const LATEST_DEADLINE: u32 = 65535;
+
+// Times are kept task by task: pair_index alone knows where one lies. A deadline is 0 for a task without.
 #[repr(C)]
 pub struct Plan {
     pub types: usize,
@@ -28,6 +30,7 @@ pub struct Plan {
     pub bcet: [u32; MOST_PAIRS],
     pub wcet: [u32; MOST_PAIRS],
     pub predecessors: [u64; MOST_TASKS],
+    pub deadlines: [u32; MOST_TASKS],
 }
 
 // The execution order and the chosen type of each task: the first `len` entries of two arrays.
@@ -55,6 +58,7 @@ pub fn no_plan() -> Plan
         bcet: [0; MOST_PAIRS],
         wcet: [0; MOST_PAIRS],
         predecessors: [0; MOST_TASKS],
+        deadlines: [0; MOST_TASKS],
     }
 }
 
@@ -106,4 +110,14 @@ pub fn predecessors_of(predecessors: &[u64; MOST_TASKS], t: usize) -> u64
         return 0;
     }
     predecessors[t]
+}
+
+// The deadline of task t, 0 for none; none past the last task.
+pub fn deadline_of(deadlines: &[u32; MOST_TASKS], t: usize) -> u32
+    ensures { λ r. ⌜ r ≡ deadlineOf (now (deadlines .entry)) t ⌝ }
+{
+    if MOST_TASKS <= t {
+        return 0;
+    }
+    deadlines[t]
 }

@@ -102,7 +102,15 @@ pub fn check(p: Plan, c: Constraint) -> Verdict
     let types = p.types;
     let tasks = p.tasks;
     let len = c.len;
-    if !rules_hold(types, &p.units, tasks, &p.bcet, &p.wcet, &p.predecessors) {
+    if !rules_hold(
+        types,
+        &p.units,
+        tasks,
+        &p.bcet,
+        &p.wcet,
+        &p.predecessors,
+        &p.deadlines,
+    ) {
         return refused(8, 0);
     }
     if len != tasks {

@@ -3,14 +3,16 @@ ghost use mathlib.Core.Path.{_≡_};
 ghost use Prim.Native.Nat.{_<_, _≤_};
 ghost use Rattle.task_set.specs.Bounded.{all};
 ghost use Rattle.plan.specs.Refusals.{planOf};
-ghost use Rattle.plan.specs.Rules.{countsOk, mostPairs, mostTasks, mostTypes, planOk, predecessorsOk, unitsOk};
+ghost use Rattle.plan.specs.Rules.{countsOk, deadlineOk, mostPairs, mostTasks, mostTypes, planOk, predecessorsOk, unitsOk};
 ghost use Rattle.plan.specs.Steps.{noTypeFrom, pairFits, pairFitsAt, restOk, typesOk};
+use crate::LATEST_DEADLINE;
 use crate::LONGEST_TIME;
 use crate::MOST_PAIRS;
 use crate::MOST_TASKS;
 use crate::MOST_TYPES;
 use crate::MOST_UNITS;
 use crate::Plan;
+use crate::deadline_of;
 use crate::is_usable;
 use crate::predecessors_of;
 
@@ -116,6 +118,25 @@ fn all_tasks_ok<'a>(
     ok
 }
 
+fn deadline_ok(tasks: usize, deadlines: &[u32; MOST_TASKS], t: usize) -> bool
+    ensures { λ r. ⌜ r ≡ deadlineOk tasks (now (deadlines .entry)) t ⌝ }
+{
+    let d = deadline_of(deadlines, t);
+    (d == 0) | ((t < tasks) & (d <= LATEST_DEADLINE))
+}
+
+fn all_deadlines_ok(tasks: usize, deadlines: &[u32; MOST_TASKS]) -> bool
+    ensures { λ r. ⌜ r ≡ all mostTasks (deadlineOk tasks (now (deadlines .entry))) ⌝ }
+{
+    let mut ok = true;
+    let mut t = 0;
+    while t < MOST_TASKS {
+        ok = ok & deadline_ok(tasks, deadlines, t);
+        t += 1;
+    }
+    ok
+}
+
 // Whether the plan with these parts breaks no rule: they are lent, so that nothing is copied.
 pub fn rules_hold<'a>(
     types: usize,
@@ -124,15 +145,19 @@ pub fn rules_hold<'a>(
     bcet: &'a [u32; MOST_PAIRS],
     wcet: &'a [u32; MOST_PAIRS],
     predecessors: &'a [u64; MOST_TASKS],
+    deadlines: &'a [u32; MOST_TASKS],
 ) -> bool
     ensures { λ r. ⌜ r ≡ planOk
-        (planOf types (now (units .entry)) tasks (now (bcet .entry)) (now (wcet .entry)) (now (predecessors .entry))) ⌝ }
+        (planOf types (now (units .entry)) tasks (now (bcet .entry)) (now (wcet .entry)) (now (predecessors .entry))
+        (now (deadlines .entry))) ⌝ }
 {
     if !counts_ok(types, tasks) {
         return false;
     }
     all_units_ok(types, units)
-        & (all_pairs_fit(bcet, wcet) & all_tasks_ok(types, tasks, wcet, predecessors))
+        & (all_pairs_fit(bcet, wcet)
+            & all_tasks_ok(types, tasks, wcet, predecessors)
+            & all_deadlines_ok(tasks, deadlines))
 }
 
 // Whether the plan breaks no rule: 8 alone.
@@ -141,5 +166,13 @@ pub fn plan_ok(p: Plan) -> bool
 {
     let types = p.types;
     let tasks = p.tasks;
-    rules_hold(types, &p.units, tasks, &p.bcet, &p.wcet, &p.predecessors)
+    rules_hold(
+        types,
+        &p.units,
+        tasks,
+        &p.bcet,
+        &p.wcet,
+        &p.predecessors,
+        &p.deadlines,
+    )
 }

@@ -8,9 +8,9 @@ use Rattle.task_set.specs.Sets.{has, insert}
 use Rattle.plan.specs.declared.Plan.{Plan}
 use Rattle.plan.specs.declared.Constraint.{Constraint}
 use Rattle.plan.specs.Refusals.{noPlan, noConstraint}
-use Rattle.plan.specs.Rules.{mostTypes, mostUnits, mostTasks, longestTime, between, pairIndex, timeOf, predecessorsOf}
+use Rattle.plan.specs.Rules.{mostTypes, mostUnits, mostTasks, longestTime, latestDeadline, between, pairIndex, timeOf, predecessorsOf, deadlineOf}
 use Rattle.plan_text.specs.declared.Line.{Line}
-use Rattle.plan_text.specs.declared.Line.the-variants.{Units, Times, Arrow, Choice}
+use Rattle.plan_text.specs.declared.Line.the-variants.{Units, Times, Arrow, Deadline, Choice}
 use Rattle.plan_text.specs.declared.Seen.{Seen}
 
 -- what was read so far; `seen` is the kind of the last line, the tasks with a T line, and the tasks with a C line
@@ -23,7 +23,8 @@ pub record Reading : Type 0 where
 abbrev pub nothing : Reading
 nothing = record { plan = noPlan; constraint = noConstraint; seen = record { kind = 0; timed = 0; listed = 0 } }
 
--- the kinds of lines: "All U lines precede T, T precede A, A precede C"
+-- the kinds of lines: "All U lines precede T, T precede A, A precede C", and D "after the A lines and before the C lines"
+-- (document 02, 2)
 abbrev pub kindU : ℕ
 kindU = 0
 
@@ -33,13 +34,17 @@ kindT = 1
 abbrev pub kindA : ℕ
 kindA = 2
 
+abbrev pub kindD : ℕ
+kindD = 3
+
 abbrev pub kindC : ℕ
-kindC = 3
+kindC = 4
 
 abbrev pub kindOf : Line → ℕ
 kindOf (Units k n) = kindU
 kindOf (Times t k b w) = kindT
 kindOf (Arrow from to) = kindA
+kindOf (Deadline t d) = kindD
 kindOf (Choice t k) = kindC
 
 -- number i of a line, from 0 on, in the order of its fields
@@ -47,6 +52,7 @@ abbrev pub number : Line → ℕ → ℕ
 number (Units k n) i = getD (k ∷ n ∷ []) i 0
 number (Times t k b w) i = getD (t ∷ k ∷ b ∷ w ∷ []) i 0
 number (Arrow from to) i = getD (from ∷ to ∷ []) i 0
+number (Deadline t d) i = getD (t ∷ d ∷ []) i 0
 number (Choice t k) i = getD (t ∷ k ∷ []) i 0
 
 -- ---- the faults of a line
@@ -61,11 +67,16 @@ isTask t = ltb t mostTasks
 abbrev pub isTime : ℕ → Bool
 isTime x = between 1 x longestTime
 
+-- "instant from 1 to 65,535" (document 02, 2)
+abbrev pub isDeadline : ℕ → Bool
+isDeadline x = between 1 x latestDeadline
+
 -- 3: "a number out of range"
 abbrev pub outOfRange : Line → Bool
 outOfRange (Units k n) = not (isType k && between 1 n mostUnits)
 outOfRange (Times t k b w) = not (isTask t && (isType k && (isTime b && isTime w)))
 outOfRange (Arrow from to) = not (isTask from && isTask to)
+outOfRange (Deadline t d) = not (isTask t && isDeadline d)
 outOfRange (Choice t k) = not (isTask t && isType k)
 
 -- 4: "worst below best, or an arrow from a task to itself"
@@ -73,34 +84,37 @@ abbrev pub atOdds : Line → Bool
 atOdds (Units k n) = false
 atOdds (Times t k b w) = ltb w b
 atOdds (Arrow from to) = eqb from to
+atOdds (Deadline t d) = false
 atOdds (Choice t k) = false
 
--- 6: "a U type that is not the next, a T type without U line, an A or C task without T line"
+-- 6: "a U type that is not the next, a T type without U line, an A or C task without T line", a D task too (document 02, 2)
 abbrev pub unknown : ℕ → ℕ → Line → Bool
 unknown types timed (Units k n) = not (eqb k types)
 unknown types timed (Times t k b w) = leb types k
 unknown types timed (Arrow from to) = not (has timed from && has timed to)
+unknown types timed (Deadline t d) = not (has timed t)
 unknown types timed (Choice t k) = not (has timed t)
 
--- 7: "a T pair of task and type, an arrow or a C task given before"
-abbrev pub repeated : List ℕ → List ℕ → ℕ → Line → Bool
-repeated wcet predecessors listed (Units k n) = false
-repeated wcet predecessors listed (Times t k b w) = not (eqb (timeOf wcet t k) 0)
-repeated wcet predecessors listed (Arrow from to) = has (predecessorsOf predecessors to) from
-repeated wcet predecessors listed (Choice t k) = has listed t
+-- 7: "a T pair of task and type, an arrow or a C task given before", and a deadline, "at most one a task" (document 02, 2)
+abbrev pub repeated : List ℕ → List ℕ → List ℕ → ℕ → Line → Bool
+repeated wcet predecessors deadlines listed (Units k n) = false
+repeated wcet predecessors deadlines listed (Times t k b w) = not (eqb (timeOf wcet t k) 0)
+repeated wcet predecessors deadlines listed (Arrow from to) = has (predecessorsOf predecessors to) from
+repeated wcet predecessors deadlines listed (Deadline t d) = not (eqb (deadlineOf deadlines t) 0)
+repeated wcet predecessors deadlines listed (Choice t k) = has listed t
 
 -- the first fault, and 0 where there is none; 5 is "a kind after a later kind"
-unfoldable pub firstFault : ℕ → List ℕ → List ℕ → Seen → Line → ℕ
-firstFault types wcet predecessors seen line =
+unfoldable pub firstFault : ℕ → List ℕ → List ℕ → List ℕ → Seen → Line → ℕ
+firstFault types wcet predecessors deadlines seen line =
     cond (outOfRange line) 3
     (cond (atOdds line) 4
     (cond (ltb (kindOf line) (seen .kind)) 5
     (cond (unknown types (seen .timed) line) 6
-    (cond (repeated wcet predecessors (seen .listed) line) 7
+    (cond (repeated wcet predecessors deadlines (seen .listed) line) 7
     0))))
 
 abbrev pub lineFault : Reading → Line → ℕ
-lineFault r = firstFault (r .plan .types) (r .plan .wcet) (r .plan .predecessors) (r .seen)
+lineFault r = firstFault (r .plan .types) (r .plan .wcet) (r .plan .predecessors) (r .plan .deadlines) (r .seen)
 
 -- ---- what a line without a fault adds: to each thing that is kept, by the one kind of line that adds to it
 
@@ -133,6 +147,7 @@ lineDone r line =
         bcet = stored line kindT (p .bcet) (pairIndex (v 0) (v 1)) (v 2);
         wcet = stored line kindT (p .wcet) (pairIndex (v 0) (v 1)) (v 3);
         predecessors = stored line kindA (p .predecessors) (v 1) (insert (predecessorsOf (p .predecessors) (v 1)) (v 0));
+        deadlines = stored line kindD (p .deadlines) (v 0) (v 1);
       };
       constraint = record {
         len = counted line kindC (c .len);

@@ -1,9 +1,10 @@
 // The faults 3 to 7 of a line.
 ghost use mathlib.Core.Path.{_≡_};
 ghost use mathlib.Core.Bool.{cond};
-ghost use Rattle.plan_text.specs.Reading.{atOdds, firstFault, isTask, isTime, isType, kindOf, outOfRange, repeated, unknown};
+ghost use Rattle.plan_text.specs.Reading.{atOdds, firstFault, isDeadline, isTask, isTime, isType, kindOf, outOfRange, repeated, unknown};
 use crate::Line;
 use crate::Seen;
+use plan::LATEST_DEADLINE;
 use plan::LONGEST_TIME;
 use plan::MOST_PAIRS;
 use plan::MOST_TASKS;
@@ -17,7 +18,9 @@ pub const KIND_T: u32 = 1;
 
 pub const KIND_A: u32 = 2;
 
-pub const KIND_C: u32 = 3;
+pub const KIND_D: u32 = 3;
+
+pub const KIND_C: u32 = 4;
 
 pub fn kind_of(line: Line) -> u32
     ensures { λ r. ⌜ r ≡ kindOf line ⌝ }
@@ -26,6 +29,7 @@ pub fn kind_of(line: Line) -> u32
         Line::Units(_, _) => KIND_U,
         Line::Times(_, _, _, _) => KIND_T,
         Line::Arrow(_, _) => KIND_A,
+        Line::Deadline(_, _) => KIND_D,
         Line::Choice(_, _) => KIND_C,
     }
 }
@@ -48,6 +52,12 @@ fn is_time(x: u32) -> bool
     (1 <= x) & (x <= LONGEST_TIME)
 }
 
+fn is_deadline(x: u32) -> bool
+    ensures { λ r. ⌜ r ≡ isDeadline x ⌝ }
+{
+    (1 <= x) & (x <= LATEST_DEADLINE)
+}
+
 fn out_of_range(line: Line) -> bool
     ensures { λ r. ⌜ r ≡ outOfRange line ⌝ }
 {
@@ -55,6 +65,7 @@ fn out_of_range(line: Line) -> bool
         Line::Units(k, n) => !(is_type(k) & ((1 <= n) & (n <= MOST_UNITS))),
         Line::Times(t, k, b, w) => !(is_task(t) & (is_type(k) & (is_time(b) & is_time(w)))),
         Line::Arrow(from, to) => !(is_task(from) & is_task(to)),
+        Line::Deadline(t, d) => !(is_task(t) & is_deadline(d)),
         Line::Choice(t, k) => !(is_task(t) & is_type(k)),
     }
 }
@@ -66,6 +77,7 @@ fn at_odds(line: Line) -> bool
         Line::Units(_, _) => false,
         Line::Times(_, _, b, w) => w < b,
         Line::Arrow(from, to) => from == to,
+        Line::Deadline(_, _) => false,
         Line::Choice(_, _) => false,
     }
 }
@@ -79,6 +91,7 @@ fn unknown(types: usize, timed: u64, line: Line) -> bool
         Line::Arrow(from, to) => {
             !(task_set::contains(timed, from as usize) & task_set::contains(timed, to as usize))
         }
+        Line::Deadline(t, _) => !task_set::contains(timed, t as usize),
         Line::Choice(t, _) => !task_set::contains(timed, t as usize),
     }
 }
@@ -86,10 +99,12 @@ fn unknown(types: usize, timed: u64, line: Line) -> bool
 fn repeated<'a>(
     wcet: &'a [u32; MOST_PAIRS],
     predecessors: &'a [u64; MOST_TASKS],
+    deadlines: &'a [u32; MOST_TASKS],
     listed: u64,
     line: Line,
 ) -> bool
-    ensures { λ r. ⌜ r ≡ repeated (now (wcet .entry)) (now (predecessors .entry)) listed line ⌝ }
+    ensures { λ r. ⌜ r
+        ≡ repeated (now (wcet .entry)) (now (predecessors .entry)) (now (deadlines .entry)) listed line ⌝ }
 {
     match line {
         Line::Units(_, _) => false,
@@ -98,6 +113,7 @@ fn repeated<'a>(
             let before = plan::predecessors_of(predecessors, to as usize);
             task_set::contains(before, from as usize)
         }
+        Line::Deadline(t, _) => plan::deadline_of(deadlines, t as usize) != 0,
         Line::Choice(t, _) => task_set::contains(listed, t as usize),
     }
 }
@@ -116,16 +132,18 @@ pub fn line_fault<'a>(
     types: usize,
     wcet: &'a [u32; MOST_PAIRS],
     predecessors: &'a [u64; MOST_TASKS],
+    deadlines: &'a [u32; MOST_TASKS],
     seen: Seen,
     line: Line,
 ) -> u32
-    ensures { λ r. ⌜ r ≡ firstFault types (now (wcet .entry)) (now (predecessors .entry)) seen line ⌝ }
+    ensures { λ r. ⌜ r
+        ≡ firstFault types (now (wcet .entry)) (now (predecessors .entry)) (now (deadlines .entry)) seen line ⌝ }
 {
     let outside = out_of_range(line);
     let odd = at_odds(line);
     let late = kind_of(line) < seen.kind;
     let absent = unknown(types, seen.timed, line);
-    let again = repeated(wcet, predecessors, seen.listed, line);
+    let again = repeated(wcet, predecessors, deadlines, seen.listed, line);
     let fault = unless(again, 7, 0);
     let fault = unless(absent, 6, fault);
     let fault = unless(late, 5, fault);

@@ -4,7 +4,7 @@ ghost use mathlib.Core.Bool.{cond, false};
 ghost use Prim.Native.Nat.{ℕ, _+_, _≤_, _<_, max};
 ghost use Rattle.task_set.specs.Sets.{insert};
 ghost use Rattle.plan.specs.Rules.{mostTasks, pairIndex, predecessorsOf};
-ghost use Rattle.plan_text.specs.Reading.{counted, isKind, kindA, kindC, kindOf, kindT, kindU, named, number, outOfRange, stored};
+ghost use Rattle.plan_text.specs.Reading.{counted, isKind, kindA, kindC, kindD, kindOf, kindT, kindU, named, number, outOfRange, stored};
 ghost use Rattle.plan_text.specs.Text.{mostBytes};
 use crate::Line;
 use crate::Seen;
@@ -23,6 +23,7 @@ fn first(line: Line) -> u32
         Line::Units(k, _) => k,
         Line::Times(t, _, _, _) => t,
         Line::Arrow(from, _) => from,
+        Line::Deadline(t, _) => t,
         Line::Choice(t, _) => t,
     }
 }
@@ -113,6 +114,16 @@ pub fn predecessors(predecessors: &mut [u64; MOST_TASKS], line: Line)
         let i = to as usize;
         let s = predecessors[i];
         predecessors[i] = task_set::inserted(s, from as usize);
+    }
+}
+
+pub fn deadlines(deadlines: &mut [u32; MOST_TASKS], line: Line)
+    requires { ⌜ outOfRange line ≡ false ⌝ }
+    ensures { λ _. ⌜ now (deadlines .exit) ≡ stored line kindD (now (deadlines .entry)) (number line 0) (number line 1) ⌝ }
+{
+    if let Line::Deadline(t, d) = line {
+        let i = t as usize;
+        deadlines[i] = d;
     }
 }
 

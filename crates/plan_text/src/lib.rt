@@ -21,11 +21,12 @@ const NEWLINE: u8 = b'\n';
 
 const MOST_BYTES: usize = 32768;
 
-// A line of one of the four forms: U, type, count; T, task, type, best, worst; A, from, to; C, task, type.
+// A line of one of the five forms: U, type, count; T, task, type, best, worst; A, from, to; D, task, instant; C, task, type.
 pub enum Line {
     Units(u32, u32),
     Times(u32, u32, u32, u32),
     Arrow(u32, u32),
+    Deadline(u32, u32),
     Choice(u32, u32),
 }
 
@@ -128,7 +129,7 @@ pub fn read(text: &[u8]) -> Answer
         let LineForm::Of(line) = line_at(text, at, e) else {
             return refuse(2, place);
         };
-        let fault = line_fault(p.types, &p.wcet, &p.predecessors, seen, line);
+        let fault = line_fault(p.types, &p.wcet, &p.predecessors, &p.deadlines, seen, line);
         if fault != 0 {
             return refuse(fault, place);
         }
@@ -138,6 +139,7 @@ pub fn read(text: &[u8]) -> Answer
         fill::times(&mut p.bcet, 2, line);
         fill::times(&mut p.wcet, 3, line);
         fill::predecessors(&mut p.predecessors, line);
+        fill::deadlines(&mut p.deadlines, line);
         fill::entries(c.len, &mut c.order, 0, line);
         fill::entries(c.len, &mut c.chosen, 1, line);
         c.len = fill::counted(c.len, KIND_C, line);

@@ -1,8 +1,9 @@
-// Four operations for the benchmark (benchmark/), which is written in Rust: each is the library's own, with its own promise.
+// Five operations for the benchmark (benchmark/), which is written in Rust: each is the library's own, with its own promise.
 ghost use mathlib.Core.Path.{_≡_};
 ghost use Rattle.plan.specs.Refusals.{verdict};
 ghost use Rattle.plan_text.specs.Text.{readText};
 ghost use Rattle.simulation.specs.Simulated.{simulated};
+ghost use Rattle.slack.specs.Margins.{InRange, slacksOf};
 ghost use Rattle.live.specs.Replays.{Replays};
 use live::Replayed;
 use plan::Constraint;
@@ -10,6 +11,7 @@ use plan::Plan;
 use plan::Verdict;
 use plan_text::Answer;
 use simulation::Simulation;
+use slack::Slacks;
 
 #[no_mangle]
 pub extern "C" fn speed_read(text: &[u8]) -> Answer
@@ -30,6 +32,13 @@ pub extern "C" fn speed_simulate(p: Plan, c: Constraint, times: &[u32]) -> Simul
     ensures { λ r. ⌜ r ≡ simulated p c (now (times .entry)) ⌝ }
 {
     simulation::simulate(p, c, times)
+}
+
+#[no_mangle]
+pub extern "C" fn speed_margins(p: Plan, c: Constraint) -> Slacks
+    ensures { λ r. ⌜ (r ≡ slacksOf p c) × InRange (r .slacks) ⌝ }
+{
+    slack::slacks_of(p, c)
 }
 
 #[no_mangle]

@@ -1,12 +1,17 @@
 -- The laws of `tabulate`. Assumes nothing.
-use mathlib.Core.Path.{_≡_, refl, ap, ap₂}
-use mathlib.Core.List.{[], _∷_}
-use Prim.Native.Nat.{ℕ, zero, suc, _<_, suc-le-suc}
-use native.Mathlib.Nat.{le-of-suc-le-suc, not-suc-le-zero, le-of-eq, zero-lt-suc}
+use mathlib.Core.Path.{_≡_, refl, sym, ap, ap₂, _∙_}
+use mathlib.Core.Bool.{cond}
+use mathlib.Core.List.{List, [], _∷_}
+use Prim.Native.Nat.{ℕ, zero, suc, _+_, _≤_, _<_, zero-le, suc-le-suc}
+use native.Mathlib.Nat.{le-of-suc-le-suc, lt-of-lt-of-le, not-suc-le-zero, le-of-eq, zero-lt-suc}
+use native.Mathlib.Numerals.{add-one}
 use native.Mathlib.Omega.{arith}
+use borrow.Author.Tests.{le-ltb, lt-ltb}
+use lib.Dec.{ltb}
 use lib.ListN.{length, getD, drop, set, replicate, drop-of-length-le}
 use lib.Seq.{drop-cons}
 use Rattle.task_set.specs.Bounded.{tabulate}
+use Rattle.task_set.proofs.Bounded.{other-below}
 
 pub length-tabulate : {A : Type 0} (n : ℕ) (f : ℕ → A) → length (tabulate n f) ≡ n
 unfolding tabulate
@@ -49,3 +54,21 @@ set-tabulate (suc n) f g zero h =
 set-tabulate (suc n) f g (suc i) h =
     ap₂ _∷_ (h 0 (λ e. omega arith))
     (set-tabulate n (λ j. f (suc j)) (λ j. g (suc j)) i (λ j q. h (suc j) (λ e. q (omega arith))))
+
+-- ---- a table that a loop fills from the front: f below t, and a from there on
+
+module _ {A : Type 0} (n : ℕ) (f : ℕ → A) (a : A) where
+  abbrev pub filledTo : ℕ → List A
+  filledTo t = tabulate n (λ i. cond (ltb i t) (f i) a)
+
+  pub filled-none : replicate n a ≡ filledTo 0
+  filled-none = replicate-tabulate n a ∙ tabulate-cong n _ _ (λ i l. rw (le-ltb i 0 zero-le) refl)
+
+  pub filled-more : (t : ℕ) {x : A} → x ≡ f t → set (filledTo t) t x ≡ filledTo (t + 1)
+  filled-more t e =
+      ap (set (filledTo t) t) (e ∙ sym (rw (lt-ltb t (t + 1) (omega arith)) refl))
+      ∙ set-tabulate n _ (λ i. cond (ltb i (t + 1)) (f i) a) t
+      (λ j h. rw (add-one t, other-below j t h) refl)
+
+  pub filled-all : {t : ℕ} → n ≤ t → filledTo t ≡ tabulate n f
+  filled-all {t} l = tabulate-cong n _ f (λ i m. rw (lt-ltb i t (lt-of-lt-of-le m l)) refl)

@@ -2,20 +2,23 @@
 use mathlib.Core.Path.{refl}
 use Rattle.task_set.specs.Bounded.{all, any, count, first, tabulate}
 use Rattle.task_set.specs.Sets.{has, insert, setOf}
-use Rattle.plan.specs.Rules.{timeOf, predecessorsOf, usable, countsOk, unitsOk, pairOk, pairsOk, someTypeOk, predecessorsOk, taskOk, planOk}
+use Rattle.plan.specs.Rules.{timeOf, predecessorsOf, deadlineOf, usable, countsOk, unitsOk, pairOk, pairsOk, someTypeOk, predecessorsOk, taskOk, deadlineOk, planOk}
 use Rattle.plan.specs.Refusals.{misplaced, unusable, predecessorLater, unlessAt, firstRefusal, verdict}
 use Rattle.dispatch_theory.specs.Sums.{sum, greatest}
 use Rattle.runs.specs.Running.{entries, typeIn, typeOf, worst, allowed, cleared, busy, mayStart, dispatch, step, opening, timed, over, horizon, ended, response}
 use Rattle.runs.specs.Journal.{idle, overdue, refusal, hear, newlyStarted, answer, openingAnswer, notesFrom, answersFrom, journal, answers}
-use Rattle.simulation.specs.Simulated.{outside, timesVerdict, simulationVerdict}
-use Rattle.worked_examples.specs.PlanA.{times, planWith, planA, fiveEntries, orderA, orderB}
-use Rattle.worked_examples.specs.Table.{run, check, simulate, listed, ticks, finishes, table, Holds}
+use Rattle.simulation.specs.Simulated.{outside, timesVerdict, simulationVerdict, ran, notRun, worstCase}
+use Rattle.slack.specs.Margins.{slackOf, isTightest, tightest, someSlacks, slacksIn, slacksOf}
+use Rattle.worked_examples.specs.PlanA.{times, planWith, planOne, planDue, planA, fiveEntries, orderA, orderB}
+use Rattle.worked_examples.specs.Table.{run, check, simulate, listed, ticks, finishes, marginsOf, margins, due, table, Holds}
 
 pub worked : Holds table
-unfolding all any count first tabulate has insert setOf timeOf predecessorsOf usable countsOk unitsOk pairOk pairsOk
-    someTypeOk predecessorsOk taskOk planOk misplaced unusable predecessorLater unlessAt firstRefusal verdict sum greatest
-    entries typeIn typeOf worst allowed cleared busy mayStart dispatch step opening timed over horizon ended response idle
-    overdue refusal hear newlyStarted answer openingAnswer notesFrom answersFrom journal answers outside timesVerdict
-    simulationVerdict times planWith planA fiveEntries orderA orderB run check simulate listed ticks finishes table
+unfolding all any count first tabulate has insert setOf timeOf predecessorsOf deadlineOf usable countsOk unitsOk
+    pairOk pairsOk someTypeOk predecessorsOk taskOk deadlineOk planOk misplaced unusable predecessorLater unlessAt
+    firstRefusal verdict sum greatest entries typeIn typeOf worst allowed cleared busy mayStart dispatch step opening
+    timed over horizon ended response idle overdue refusal hear newlyStarted answer openingAnswer notesFrom
+    answersFrom journal answers outside timesVerdict simulationVerdict ran notRun worstCase slackOf isTightest
+    tightest someSlacks slacksIn slacksOf times planWith planOne planDue planA fiveEntries orderA orderB run check
+    simulate listed ticks finishes marginsOf margins due table
 worked =
-    (refl, (refl, (refl, (refl, (refl, (refl, (refl, (refl, (refl, (refl, (refl, (refl, (refl, (refl, (refl, tt)))))))))))))))
+    (refl, (refl, (refl, (refl, (refl, (refl, (refl, (refl, (refl, (refl, (refl, (refl, (refl, (refl, (refl, (refl, (refl, (refl, (refl, tt)))))))))))))))))))

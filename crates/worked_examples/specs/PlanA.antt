@@ -13,13 +13,21 @@ times t0 t1 t2 t3 t3′ t4 =
     set (set (set (set (set (set (replicate mostPairs 0) (pairIndex 0 0) t0) (pairIndex 1 0) t1) (pairIndex 2 1) t2)
     (pairIndex 3 0) t3) (pairIndex 3 1) t3′) (pairIndex 4 0) t4
 
--- plan A with so many units of type 1
-unfoldable pub planWith : ℕ → Plan
-planWith units =
+-- plan A with so many units of type 1, and deadlines of its tasks and of number 5, which is absent (document 02, 2)
+unfoldable pub planWith : ℕ → List ℕ → Plan
+planWith units deadlines =
     planOf 2 (1 ∷ units ∷ replicate 6 0) 5 (times 1 1 2 2 1 1) (times 2 3 4 5 3 2) (0 ∷ 0 ∷ 1 ∷ 2 ∷ 4 ∷ replicate 59 0)
+    (deadlines ++ replicate 58 0)
+
+-- with one unit, or with deadlines
+unfoldable pub planOne : Plan
+planOne = planWith 1 (replicate 6 0)
+
+unfoldable pub planDue : List ℕ → Plan
+planDue = planWith 2
 
 unfoldable pub planA : Plan
-planA = planWith 2
+planA = planDue (replicate 6 0)
 
 -- five entries of task and type
 unfoldable pub fiveEntries : List ℕ → List ℕ → Constraint

@@ -3,8 +3,10 @@
 use mathlib.Core.Bool.{cond}
 use mathlib.Core.Path.{_≡_}
 use mathlib.Core.List.{List, [], _∷_, _++_}
-use Prim.Native.Nat.{ℕ}
+use Prim.Native.Nat.{ℕ, zero, suc}
 use lib.Dec.{eqb}
+use lib.IntN.{ℤ, pos, negsuc}
+use lib.ListN.{replicate}
 use Rattle.task_set.specs.Bounded.{tabulate}
 use Rattle.plan.specs.declared.Plan.{Plan}
 use Rattle.plan.specs.declared.Constraint.{Constraint}
@@ -14,7 +16,9 @@ use Rattle.plan.specs.Refusals.{noPlan, noConstraint, verdict}
 use Rattle.runs.specs.Running.{typeOf, worst, orZero, ended, response}
 use Rattle.runs.specs.Journal.{Answer, openingAnswer, journal, answers}
 use Rattle.simulation.specs.Simulated.{simulationVerdict}
-use Rattle.worked_examples.specs.PlanA.{planWith, planA, fiveEntries, orderA, orderB}
+use Rattle.slack.specs.declared.Slacks.{Slacks}
+use Rattle.slack.specs.Margins.{slackAt, slacksOf}
+use Rattle.worked_examples.specs.PlanA.{planOne, planDue, planA, fiveEntries, orderA, orderB}
 
 -- the starts by task number, and the response
 unfoldable pub run : Plan → Constraint → (ℕ → ℕ) → List ℕ
@@ -46,6 +50,26 @@ ticks reports = numbers (openingAnswer planA orderA) ++ listed (answers planA or
 unfoldable pub finishes : List ℕ → List ℕ
 finishes reports = tabulate 5 (λ t. orZero (journal planA orderA reports .finish t))
 
+-- an integer as two numbers: how far above zero, how far below
+abbrev pub over : ℤ → List ℕ
+over (pos n) = n ∷ 0 ∷ []
+over (negsuc n) = 0 ∷ suc n ∷ []
+
+-- the margins of the first n tasks
+unfoldable pub marginsOf : Slacks → ℕ → List ℕ
+marginsOf s zero = []
+marginsOf s (suc t) = marginsOf s t ++ over (slackAt (s .slacks) t)
+
+-- with these deadlines: whether there are any, the least margin, its task, and the margins of the five tasks
+unfoldable pub margins : List ℕ → List ℕ
+margins deadlines =
+    let s = slacksOf (planDue deadlines) orderA in
+    cond (s .any) 1 0 ∷ over (s .least) ++ s .task ∷ marginsOf s 5
+
+-- what the check says to these deadlines of task 4 and of number 5, which is absent
+unfoldable pub due : ℕ → ℕ → List ℕ
+due d absent = check (planDue (0 ∷ 0 ∷ 0 ∷ 0 ∷ d ∷ absent ∷ [])) orderA
+
 -- ---- the table: what is computed, and what the documents say that it is
 
 pub record Row : Type 0 where
@@ -61,7 +85,7 @@ table =
     ∷ row (run planA orderA (λ t. timeOf (planA .bcet) t (typeOf orderA t))) (0 ∷ 1 ∷ 1 ∷ 2 ∷ 3 ∷ 4 ∷ [])
     ∷ row (run planA orderA (λ t. cond (eqb t 2) 2 (worst planA orderA t))) (0 ∷ 2 ∷ 2 ∷ 5 ∷ 5 ∷ 8 ∷ [])
     ∷ row (run planA orderB (worst planA orderB)) (0 ∷ 2 ∷ 5 ∷ 5 ∷ 9 ∷ 11 ∷ [])
-    ∷ row (run (planWith 1) orderA (worst (planWith 1) orderA)) (0 ∷ 2 ∷ 2 ∷ 6 ∷ 6 ∷ 9 ∷ [])
+    ∷ row (run planOne orderA (worst planOne orderA)) (0 ∷ 2 ∷ 2 ∷ 6 ∷ 6 ∷ 9 ∷ [])
     ∷ row (check planA (fiveEntries (2 ∷ 0 ∷ 1 ∷ 3 ∷ 4 ∷ []) (1 ∷ 0 ∷ 0 ∷ 1 ∷ 0 ∷ []))) (11 ∷ 0 ∷ [])
     ∷ row (check planA (fiveEntries (0 ∷ 1 ∷ 2 ∷ 3 ∷ 4 ∷ []) (0 ∷ 1 ∷ 1 ∷ 1 ∷ 0 ∷ []))) (10 ∷ 1 ∷ [])
     ∷ row (check planA (fiveEntries (0 ∷ 1 ∷ 2 ∷ 3 ∷ 3 ∷ []) (0 ∷ 0 ∷ 1 ∷ 1 ∷ 1 ∷ []))) (9 ∷ 4 ∷ [])
@@ -72,6 +96,10 @@ table =
     ∷ row (run planA orderA (λ t. 1)) (0 ∷ 1 ∷ 1 ∷ 2 ∷ 2 ∷ 3 ∷ [])
     ∷ row (simulate (1 ∷ 1 ∷ 1 ∷ 1 ∷ 1 ∷ []) ++ simulate (1 ∷ 1 ∷ 0 ∷ 1 ∷ 1 ∷ [])) (0 ∷ 0 ∷ 18 ∷ 2 ∷ [])
     ∷ row (check planA orderA ++ check noPlan noConstraint) (0 ∷ 0 ∷ 8 ∷ 0 ∷ [])
+    ∷ row (margins (3 ∷ 5 ∷ 5 ∷ 0 ∷ 9 ∷ 0 ∷ [])) (1 ∷ 0 ∷ 1 ∷ 2 ∷ 1 ∷ 0 ∷ 0 ∷ 0 ∷ 0 ∷ 1 ∷ 0 ∷ 0 ∷ 1 ∷ 0 ∷ [])
+    ∷ row (margins (0 ∷ 7 ∷ 0 ∷ 10 ∷ 0 ∷ 0 ∷ [])) (1 ∷ 2 ∷ 0 ∷ 1 ∷ 0 ∷ 0 ∷ 2 ∷ 0 ∷ 0 ∷ 0 ∷ 2 ∷ 0 ∷ 0 ∷ 0 ∷ [])
+    ∷ row (margins (replicate 6 0)) (replicate 14 0)
+    ∷ row (due 65535 0 ++ due 65536 0 ++ due 65535 1) (0 ∷ 0 ∷ 8 ∷ 0 ∷ 8 ∷ 0 ∷ [])
     ∷ []
 
 -- every row is as stated

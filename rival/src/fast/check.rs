@@ -4,7 +4,8 @@ use crate::plan::*;
 
 pub fn check(plan: &Plan, constraint: &Constraint) -> Result<(), Refusal> {
     let sized = plan.counts_are_right() && units_are_right(plan);
-    if !sized || !pairs_are_right(plan) || !predecessors_are_right(plan) {
+    let right = sized && pairs_are_right(plan) && predecessors_are_right(plan);
+    if !right || !deadlines_are_right(plan) {
         return refuse(8, 0);
     }
     if constraint.length != plan.tasks {
@@ -62,8 +63,8 @@ fn types_are_right(best: &[u32], types: u64) -> bool {
     present.iter().any(|&time| time != 0) && absent.iter().all(|&time| time == 0)
 }
 
-fn all_zero(times: &[u32]) -> bool {
-    times.iter().fold(0, |all, time| all | time) == 0
+fn all_zero(numbers: &[u32]) -> bool {
+    numbers.iter().fold(0, |all, number| all | number) == 0
 }
 
 fn predecessors_are_right(plan: &Plan) -> bool {
@@ -72,4 +73,10 @@ fn predecessors_are_right(plan: &Plan) -> bool {
     let wrong = present.iter().enumerate().map(|(t, set)| set & (nobody | 1 << t));
     let wrong = wrong.fold(0, |all, wrong| all | wrong);
     absent.iter().fold(wrong, |all, set| all | set) == 0
+}
+
+fn deadlines_are_right(plan: &Plan) -> bool {
+    let (present, absent) = plan.deadlines.split_at(plan.tasks as usize);
+    let wrong = present.iter().fold(false, |wrong, &deadline| wrong | (deadline > LATEST_DEADLINE));
+    !wrong && all_zero(absent)
 }

@@ -1,10 +1,12 @@
 //! The same answers as the plain forms, written for speed.
 mod check;
+mod margins;
 mod read;
 mod simulate;
 mod tick;
 
 pub use check::check;
+pub use margins::margins;
 pub use read::read;
 pub use simulate::simulate;
 pub use tick::{replay, start, tick};

@@ -11,6 +11,7 @@ enum Kind {
     U,
     T,
     A,
+    D,
     C,
 }
 
@@ -104,6 +105,7 @@ impl Reading {
             b'U' => self.units(cursor.fields()?),
             b'T' => self.times(cursor.fields()?),
             b'A' => self.arrow(cursor.fields()?),
+            b'D' => self.deadline(cursor.fields()?),
             b'C' => self.choice(cursor.fields()?),
             _ => Err(2),
         }
@@ -147,6 +149,16 @@ impl Reading {
         number_if(self.with_times >> from & self.with_times >> to & 1 == 0, 6)?;
         number_if(self.plan.predecessors[to] >> from & 1 == 1, 7)?;
         self.plan.predecessors[to] |= 1 << from;
+        Ok(())
+    }
+
+    fn deadline(&mut self, [task, deadline]: [usize; 2]) -> Result<(), Number> {
+        let is_deadline = (1..=LATEST_DEADLINE as usize).contains(&deadline);
+        number_if(task >= TASKS || !is_deadline, 3)?;
+        self.follows(Kind::D)?;
+        number_if(self.with_times >> task & 1 == 0, 6)?;
+        number_if(self.plan.deadlines[task] != 0, 7)?;
+        self.plan.deadlines[task] = deadline as u32;
         Ok(())
     }
 

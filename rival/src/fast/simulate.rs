@@ -18,6 +18,15 @@ pub fn simulate(plan: &Plan, constraint: &Constraint, times: &[u32]) -> Result<T
     Ok(run(plan, constraint, &by_task))
 }
 
+/// The run with the worst times of the chosen types. Only for accepted plans and constraints.
+pub(super) fn worst_run(plan: &Plan, constraint: &Constraint) -> Times {
+    let mut worst = [0; TASKS];
+    for (task, kind) in in_order(constraint) {
+        worst[task] = plan.worst[pair(task, kind)];
+    }
+    run(plan, constraint, &worst)
+}
+
 /// The tasks and chosen types in execution order. Only for accepted constraints.
 fn in_order(constraint: &Constraint) -> impl Iterator<Item = (usize, usize)> + '_ {
     let n = constraint.length as usize;

@@ -53,14 +53,14 @@ in-turn a = a .before .before .loop-test .taken
 
 -- a line that has one of the forms
 abbrev told : tie.After-line-fault Inv-loop μ-loop → tie.After-line-at Inv-loop μ-loop
-told f = f .before .before .before .before .before .before .before
+told f = f .before .before .before .before .before .before .before .before
 
 abbrev line : tie.After-line-fault Inv-loop μ-loop → Line
-line f = f .before .before .before .before .before .line .given .0 .0
+line f = f .before .before .before .before .before .before .line .given .0 .0
 
 form : (f : tie.After-line-fault Inv-loop μ-loop) → let a = told f in
     lineAt (text (turn a)) (turn a .loop .at) (a .before .line-end .result) ≡ Of (line f)
-form f = sym (told f .line-at .ensures) ∙ f .before .before .before .before .before .line .given .1
+form f = sym (told f .line-at .ensures) ∙ f .before .before .before .before .before .before .line .given .1
 
 -- and no fault
 faultless : (e : tie.Else2 Inv-loop μ-loop) → lineFault (read (turn (told (e .before)))) (line (e .before)) ≡ 0
@@ -92,8 +92,8 @@ bounds e =
     )
 
 -- past what a line adds to the plan, and to the constraint
-abbrev past-plan : tie.After-predecessors Inv-loop μ-loop → tie.Else2 Inv-loop μ-loop
-past-plan q = q .before .before .before .before .before .before .before .before .before .before
+abbrev past-plan : tie.After-deadlines Inv-loop μ-loop → tie.Else2 Inv-loop μ-loop
+past-plan q = q .before .before .before .before .before .before .before .before .before .before .before .before
 
 abbrev past : tie.After-seen Inv-loop μ-loop → tie.Else2 Inv-loop μ-loop
 past c = past-plan (c .before .before .before .before .before .before)
@@ -127,7 +127,8 @@ loop-again c =
     let n = c .before in
     let h = n .before in
     let o = h .before .before in
-    let q = o .before .before in
+    let v = o .before .before in
+    let q = v .before .before in
     let w = q .before .before in
     let b = w .before .before in
     let t = b .before .before in
@@ -146,6 +147,7 @@ loop-again c =
         bcet = b .times .ensures i;
         wcet = w .times2 .ensures i;
         predecessors = q .predecessors .ensures i;
+        deadlines = v .deadlines .ensures i;
       };
       constraint = record { len = n .counted2 .ensures i; order = o .entries .ensures i; chosen = h .entries2 .ensures i };
       seen = c .seen .ensures i;
@@ -180,6 +182,7 @@ read-spec =
     (λ c κs. search needs) (λ c κs. (search needs, range (c .before .before .before .before .before)))
     (λ c κs. (search needs, range (c .before .before .before .before .before .before .before)))
     (λ c κs. range (c .before .before .before .before .before .before .before .before .before))
+    (λ c κs. range (c .before .before .before .before .before .before .before .before .before .before .before))
     (λ c κs. (search needs, roomy (past-plan (c .before))))
     (λ c κs. (search needs, roomy (past-plan (c .before .before .before)))) len-fits (λ c κs. search needs)
     (λ c. omega (arith, bounds (past c))) (λ c. omega (arith, few (past c))) (λ c. omega (arith, bounds (past c)))

@@ -22,10 +22,18 @@ returns-4 c = rw (c .before .before .before .if1 .left, c .before .before .if2 .
 
 returns-5 : tie.Need-returns-5
 unfolding formOf
-returns-5 c = rw (c .before .before .before .if1 .left, c .before .before .if2 .left, c .before .if3 .left, c .if4 .left)
+returns-5 c =
+    let k = c .before .before in
+    rw (k .before .before .if1 .left, k .before .if2 .left, k .if3 .left, c .before .if4 .left, c .if5 .taken)
+
+returns-6 : tie.Need-returns-6
+unfolding formOf
+returns-6 c =
+    let k = c .before .before in
+    rw (k .before .before .if1 .left, k .before .if2 .left, k .if3 .left, c .before .if4 .left, c .if5 .left)
 
 pub form-of-spec : {M : Type 1} → statement M
 form-of-spec =
     tie.close (tie.spec (λ c. search needs) (λ c. search needs) returns (λ c. search needs) (λ c. search needs)
     (λ c. search needs) (λ c. search needs) returns-2 (λ c. search needs) (λ c. search needs) returns-3
-    (λ c. search needs) (λ c. search needs) returns-4 returns-5)
+    (λ c. search needs) (λ c. search needs) returns-4 (λ c. search needs) (λ c. search needs) returns-5 returns-6)

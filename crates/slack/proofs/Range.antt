@@ -1,0 +1,106 @@
+-- Every slack lies between the least and the greatest that there can be. Assumes nothing.
+use mathlib.Core.Path.{_≡_, refl}
+use mathlib.Core.Bool.{true}
+use mathlib.Core.List.{List}
+use Prim.Native.Nat.{ℕ, _*_, _≤_, _<_}
+use native.Mathlib.Nat.{lt-of-lt-of-le}
+use native.Mathlib.Omega.{arith}
+use borrow.Author.Tests.{eqb-true, ltb-true}
+use lib.Dec.{eqb}
+use lib.IntN.{ℤ, pos, negsuc, _-ℤ_}
+use lib.ListN.{getD, replicate, getD-replicate}
+use lib.Signed.{_≤ℤ_, leZ-yes}
+use Rattle.task_set.specs.Bounded.{any}
+use Rattle.task_set.proofs.Truth.{by-test}
+use Rattle.task_set.proofs.Tables.{getD-tabulate}
+use Rattle.plan.specs.declared.Plan.{Plan}
+use Rattle.plan.specs.declared.Constraint.{Constraint}
+use Rattle.plan.specs.Rules.{mostTasks, longestTime, latestDeadline, deadlineOf}
+use Rattle.plan.proofs.Accepted.{Accepted}
+use Rattle.dispatch_theory.proofs.Sums.{sum-le}
+use Rattle.runs.specs.Running.{worst, orZero, horizon, ended}
+use Rattle.runs.proofs.Positions.{worst-short, worst-allowed, allowed-lasts}
+use Rattle.runs.proofs.Response.{ended-finish, finish-by}
+use Rattle.simulation.specs.declared.Simulation.{Simulation}
+use Rattle.simulation.specs.Simulated.{ran, worstCase}
+use Rattle.simulation.proofs.Ran.{worst-taken, worst-runs}
+use Rattle.slack.specs.declared.Slacks.{Slacks}
+use Rattle.slack.specs.Margins.{isDue, slackOf, slackAt, noSlacks, someSlacks, slacksIn, slacksOf, leastSlack, greatestSlack, InRange}
+use Rattle.slack.proofs.Differences.{difference-mono}
+
+-- the paper's numbers
+least-is : leastSlack ≡ negsuc 4194238
+least-is = refl
+
+greatest-is : greatestSlack ≡ pos 65534
+greatest-is = refl
+
+abbrev Between : ℤ → Type 0
+Between x = (leastSlack ≤ℤ x) × (x ≤ℤ greatestSlack)
+
+zero-between : Between (pos 0)
+zero-between = (leZ-yes tt, leZ-yes tt)
+
+-- in the run of worst times a task takes at least one tick, and no more than all tasks take together
+module _ {p : Plan} {c : Constraint} (a : Accepted p c) where
+  finish-between : (t : ℕ) → t < p .tasks → let f = getD (ran p c (worst p c) .finishes) t 0 in
+      (1 ≤ f) × (f ≤ mostTasks * longestTime)
+  unfolding ran horizon
+  finish-between t l =
+      let d = worst p c in
+      let w = allowed-lasts a d (worst-allowed a) in
+      rw (getD-tabulate mostTasks (λ t. orZero (ended p c d .finish t)) t 0 (lt-of-lt-of-le l (a .few-tasks)), ended-finish a d w t l) (
+        omega (arith, w t l),
+        omega (arith, finish-by a d w t l, sum-le (p .tasks) d longestTime (worst-short a), a .few-tasks),
+      )
+
+  slack-between : (t : ℕ) → Between (slackOf (p .deadlines) (ran p c (worst p c) .finishes) t)
+  unfolding slackOf
+  slack-between t = by-test (isDue (p .deadlines) t) due (λ e. rw e zero-between)
+    where
+      d : ℕ
+      d = deadlineOf (p .deadlines) t
+
+      f : ℕ
+      f = getD (ran p c (worst p c) .finishes) t 0
+
+      due : isDue (p .deadlines) t ≡ true → Between (slackOf (p .deadlines) (ran p c (worst p c) .finishes) t)
+      due e =
+          let l = ltb-true 0 d e in
+          let r = a .due t l in
+          let q = finish-between t (r .0) in
+          rw e (
+            difference-mono 1 (mostTasks * longestTime) d f (omega (arith, l, q)),
+            difference-mono d f latestDeadline 1 (omega (arith, r, q)),
+          )
+
+-- ---- the answers
+
+abbrev Ranged : Slacks → Type 0
+Ranged s = InRange (s .slacks)
+
+none-ranged : (number place : ℕ) → Ranged (noSlacks number place)
+none-ranged number place =
+    let z : (t : ℕ) → t < mostTasks → slackAt (replicate mostTasks (pos 0)) t ≡ pos 0 =
+    λ t. getD-replicate mostTasks t (pos 0) (pos 0) in
+    record { low = λ t l. rw (z t l) (zero-between .0); high = λ t l. rw (z t l) (zero-between .1) }
+
+some-ranged : (deadlines finishes : List ℕ) → ((t : ℕ) → Between (slackOf deadlines finishes t)) → Ranged (someSlacks deadlines finishes)
+unfolding someSlacks
+some-ranged deadlines finishes h =
+    let z = getD-tabulate mostTasks (slackOf deadlines finishes) in
+    record { low = λ t l. rw (z t (pos 0) l) (h t .0); high = λ t l. rw (z t (pos 0) l) (h t .1) }
+
+pub in-range : (p : Plan) (c : Constraint) → Ranged (slacksOf p c)
+unfolding slacksOf slacksIn
+in-range p c =
+    by-test (eqb (s .number) 0) (λ e. rw e (by-test (any mostTasks (isDue (p .deadlines))) (λ q. rw q (some e))
+    (λ q. rw q (none-ranged 0 0)))) (λ e. rw e (none-ranged (s .number) (s .place)))
+  where
+    s : Simulation
+    s = worstCase p c
+
+    some : eqb (s .number) 0 ≡ true → Ranged (someSlacks (p .deadlines) (s .finishes))
+    some e =
+        let z = eqb-true (s .number) 0 e in
+        some-ranged (p .deadlines) (s .finishes) (λ t. rw (worst-runs p c z) (slack-between (worst-taken p c z) t))

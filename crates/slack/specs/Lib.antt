@@ -1,0 +1,2 @@
+-- The definitions that the contracts of `slack` cite.
+pub mod Margins
