@@ -3,7 +3,7 @@
 pub mod Digits
 -- bytes stored one after the other are a text
 pub mod Stores
--- the lines of a run, and their lengths
+-- texts one after the other, and their lengths
 pub mod Text
 -- a text or a refusal in a lent buffer
 pub mod Outcomes

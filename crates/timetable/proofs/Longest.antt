@@ -24,9 +24,9 @@ use Rattle.runs.proofs.Orders.{durations, startsOf, lawful, greedy}
 use Rattle.runs.proofs.Response.{ended-start, ended-finish, response-sum}
 use Rattle.simulation.specs.Simulated.{timeIn, outside, timesVerdict, ran, simulated, worstCase}
 use Rattle.timetable.specs.Decimal.{decimalUpto, decimal}
-use Rattle.timetable.specs.Table.{textBy, textOf, longestTimetable}
+use Rattle.timetable.specs.Table.{lineAt, textBy, textOf, longestTimetable}
 use Rattle.timetable.proofs.Digits.{length-one, decimal-mono}
-use Rattle.timetable.proofs.Text.{line-length, lineAt, length-lines}
+use Rattle.timetable.proofs.Text.{line-length, length-joined}
 use Rattle.simulation.proofs.Ran.{simulated-taken, times-taken, simulated-runs, worst-taken, worst-runs}
 
 sum-apart : (n : ℕ) (f g h : ℕ → ℕ) → ((i : ℕ) → i < n → f i ≤ g i + h i) → sum n f ≤ sum n g + sum n h
@@ -86,7 +86,7 @@ module _ {p : Plan} {c : Constraint} (a : Accepted p c) (d : ℕ → ℕ) (w : A
   pub longest : length (textOf c (ran p c d)) ≤ longestTimetable
   unfolding textBy ran horizon
   longest =
-      rw (length-append, length-lines) (omega (
+      rw (length-append, length-joined) (omega (
         arith,
         whole,
         ap (λ (n : ℕ). sum n (λ i. length (lineOf i))) (a .whole),

@@ -22,12 +22,19 @@ field x mark = decimal x ++ mark ∷ []
 abbrev pub line : ℕ → ℕ → ℕ → ℕ → List ℕ
 line t k s f = (field t 9 ++ field k 9) ++ (field s 9 ++ field f 10)
 
--- "A line for each task in execution order", here of the first positions; starts and finishes are by task number
-unfoldable pub lines : List ℕ → List ℕ → List ℕ → List ℕ → ℕ → List ℕ
-lines order chosen starts finishes zero = []
-lines order chosen starts finishes (suc i) =
-    let t = entryAt order i in
-    lines order chosen starts finishes i ++ line t (entryAt chosen i) (entryAt starts t) (entryAt finishes t)
+-- the first n of many texts, one after the other
+unfoldable pub joined : (ℕ → List ℕ) → ℕ → List ℕ
+joined text zero = []
+joined text (suc i) = joined text i ++ text i
+
+-- "A line for each task in execution order": that of position i; starts and finishes are by task number
+abbrev pub lineAt : List ℕ → List ℕ → List ℕ → List ℕ → ℕ → List ℕ
+lineAt order chosen starts finishes i =
+    let t = entryAt order i in line t (entryAt chosen i) (entryAt starts t) (entryAt finishes t)
+
+-- the lines of the first positions
+abbrev pub lines : List ℕ → List ℕ → List ℕ → List ℕ → ℕ → List ℕ
+lines order chosen starts finishes = joined (lineAt order chosen starts finishes)
 
 -- "Last, `R` and the response"
 unfoldable pub textBy : List ℕ → List ℕ → List ℕ → List ℕ → ℕ → ℕ → List ℕ

@@ -5,7 +5,7 @@ use native.Mathlib.Omega.{arith}
 use lib.ListN.{length}
 use borrow.Author.Needs.{needs}
 use Rattle.task_set.proofs.Upto.{Upto, upto-none, upto-more, upto-end}
-use Rattle.timetable.specs.Table.{lines}
+use Rattle.timetable.specs.Table.{joined, lines}
 use Rattle.timetable.proofs.Text.{length-next}
 use Rattle.timetable.proofs.lines.lines_length.Statement.{statement}
 use Rattle.timetable.proofs.lines.lines_length.Tie as tie
@@ -18,14 +18,14 @@ abbrev μ-loop : tie.MeasureT-loop
 μ-loop order chosen starts finishes len n₀ i₀ n i = len - i
 
 loop-holds : tie.Need-loop-holds Inv-loop μ-loop
-unfolding lines
+unfolding joined
 loop-holds c = (upto-none refl, omega arith)
 
 loop-again : tie.Need-loop-again Inv-loop μ-loop
 loop-again c =
     let l = c .before .before .before .before .before in (
       upto-more (l .loop-test .taken)
-          (length-next _ _ _ _ _ (l .before .loop .inv .0 .is)
+          (length-next _ _ (l .before .loop .inv .0 .is)
           (rw (c .before .before .instant-of .ensures, c .before .instant-of2 .ensures) at (c .line-length .ensures .0))),
       omega arith,
     )
