@@ -34,12 +34,11 @@ pub fn put_number(out: &mut [u8; WIDTH], at: usize, n: u64) -> usize {
 
 // A tab and a number that may be below zero.
 pub fn put_signed(out: &mut [u8; WIDTH], at: usize, x: i64) -> usize {
-    if 0 <= x {
-        return put_number(out, at, slack::magnitude(x) as u64);
-    }
+    let s = slack::parts_of(x);
     let mut digits = [0u8; 20];
-    let k = io::decimal(slack::magnitude(x) as u64, &mut digits);
-    let end = put_text(out, at, b"\t-");
+    let k = io::decimal(s.size as u64, &mut digits);
+    let sign: &[u8] = if s.negative { b"\t-" } else { b"\t" };
+    let end = put_text(out, at, sign);
     put_text(out, end, &digits[..k])
 }
 

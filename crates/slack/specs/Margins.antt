@@ -3,9 +3,9 @@ use mathlib.Core.Bool.{Bool, true, false, cond, _&&_}
 use mathlib.Core.List.{List}
 use Prim.Native.Nat.{ℕ, _*_, _<_}
 use lib.Dec.{eqb, ltb}
-use lib.IntN.{ℤ, pos, _-ℤ_}
+use lib.IntN.{ℤ, pos, natAbs, _-ℤ_}
 use lib.ListN.{getD, replicate}
-use lib.Signed.{leZ, _≤ℤ_}
+use lib.Signed.{ltZ, leZ, _≤ℤ_}
 use Rattle.task_set.specs.Bounded.{all, any, first, implies, tabulate}
 use Rattle.plan.specs.declared.Plan.{Plan}
 use Rattle.plan.specs.declared.Constraint.{Constraint}
@@ -13,6 +13,7 @@ use Rattle.plan.specs.Rules.{mostTasks, longestTime, latestDeadline, deadlineOf
 use Rattle.simulation.specs.declared.Simulation.{Simulation}
 use Rattle.simulation.specs.Simulated.{worstCase}
 use Rattle.slack.specs.declared.Slacks.{Slacks}
+use Rattle.slack.specs.declared.Parts.{Parts}
 
 -- the task has a deadline: "0 means none"
 abbrev pub isDue : List ℕ → ℕ → Bool
@@ -63,6 +64,10 @@ slacksIn p s =
 -- from the run of worst times: "margins give 8 to 11"
 unfoldable pub slacksOf : Plan → Constraint → Slacks
 slacksOf p c = slacksIn p (worstCase p c)
+
+-- whether a number is below zero, and the number without its sign
+abbrev pub partsOf : ℤ → Parts
+partsOf x = record { negative = ltZ x (pos 0); size = natAbs x }
 
 -- ---- "from −4,194,239 to 65,534"
 

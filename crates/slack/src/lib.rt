@@ -5,7 +5,7 @@ ghost use lib.IntN.{natAbs, pos, _-ℤ_};
 ghost use lib.Dec.{ltb};
 ghost use Rattle.task_set.specs.Bounded.{any, tabulate};
 ghost use Rattle.plan.specs.Rules.{mostTasks};
-ghost use Rattle.slack.specs.Margins.{InRange, isDue, noSlacks, slackOf, slacksIn, slacksOf, tightest};
+ghost use Rattle.slack.specs.Margins.{InRange, isDue, noSlacks, partsOf, slackOf, slacksIn, slacksOf, tightest};
 use plan::Constraint;
 use plan::MOST_TASKS;
 use plan::Plan;
@@ -23,6 +23,12 @@ pub struct Slacks {
     pub slacks: [i64; MOST_TASKS],
 }
 
+// A number that may be below zero, by its sign and its size.
+pub struct Parts {
+    pub negative: bool,
+    pub size: usize,
+}
+
 fn no_slacks(number: u32, place: usize) -> Slacks
     ensures { λ r. ⌜ r ≡ noSlacks number place ⌝ }
 {
@@ -37,13 +43,22 @@ fn no_slacks(number: u32, place: usize) -> Slacks
 }
 
 // A number without its sign.
-pub fn magnitude(x: i64) -> usize
+fn magnitude(x: i64) -> usize
     ensures { λ r. ⌜ r ≡ natAbs x ⌝ }
 {
     if 0 <= x {
         return x as usize;
     }
     (-1 - x) as usize + 1
+}
+
+// The sign of a number, and the number without it.
+pub fn parts_of(x: i64) -> Parts
+    ensures { λ r. ⌜ r ≡ partsOf x ⌝ }
+{
+    let negative = x < 0;
+    let size = magnitude(x);
+    Parts { negative, size }
 }
 
 fn is_due(deadlines: &[u32; MOST_TASKS], t: usize) -> bool

@@ -5,6 +5,8 @@ pub mod Digits
 pub mod Stores
 -- texts one after the other, and their lengths
 pub mod Text
+-- numbers with a sign, and the lines of slacks
+pub mod Signs
 -- a text or a refusal in a lent buffer
 pub mod Outcomes
 -- no timetable is longer than the longest

@@ -7,14 +7,13 @@ use native.Mathlib.Omega.{arith}
 use borrow.Author.Tests.{eq-eqb, ne-eqb, lt-ltb, le-ltb}
 use lib.ListN.{length, drop, length-append}
 use lib.Seq.{sets-eq}
-use Rattle.plan.specs.declared.Constraint.{Constraint}
 use Rattle.plan.specs.declared.Verdict.{Verdict}
 use Rattle.plan.specs.Refusals.{refused, noRefusal, firstRefusal}
 use Rattle.plan.specs.Buffers.{atStart}
 use Rattle.simulation.specs.declared.Simulation.{Simulation}
 use Rattle.timetable.specs.declared.Written.{Written}
 use Rattle.timetable.specs.Decimal.{decimal}
-use Rattle.timetable.specs.Table.{textOf, answered, bytesAfter}
+use Rattle.timetable.specs.Table.{answered, bytesAfter}
 use Rattle.timetable.specs.Refusal.{refusalLine, lineWritten, lineAfter}
 use Rattle.timetable.specs.Steps.{Room, Put, Outcome}
 use Rattle.timetable.proofs.Digits.{decimal-longest}
@@ -44,13 +43,13 @@ module _ (v : Verdict) (text b : List ℕ) where
           bytes = p .bytes ∙ sets-eq text b 0 (r .fits) ∙ ap (λ (k : ℕ). text ++ drop k b) z ∙ o .bytes;
         }
 
--- what is answered for a simulation, in the words of the promises
-pub by-run : (c : Constraint) {s t : Simulation} {b b₁ : List ℕ} {w : Written} → s ≡ t
-    → Outcome (refused (s .number) (s .place)) (textOf c s) b w b₁
-    → (w ≡ answered (refused (t .number) (t .place)) (textOf c t) (length b))
-    × (b₁ ≡ bytesAfter (refused (t .number) (t .place)) (textOf c t) b)
-by-run c {b = b} {b₁} {w} e o =
-    let x = subst (λ (s : Simulation). Outcome (refused (s .number) (s .place)) (textOf c s) b w b₁) e o in (x .answer, x .bytes)
+-- what is answered for a simulation and its text, in the words of the promises
+pub by-run : (text : Simulation → List ℕ) {s t : Simulation} {b b₁ : List ℕ} {w : Written} → s ≡ t
+    → Outcome (refused (s .number) (s .place)) (text s) b w b₁
+    → (w ≡ answered (refused (t .number) (t .place)) (text t) (length b))
+    × (b₁ ≡ bytesAfter (refused (t .number) (t .place)) (text t) b)
+by-run text {b = b} {b₁} {w} e o =
+    let x = subst (λ (s : Simulation). Outcome (refused (s .number) (s .place)) (text s) b w b₁) e o in (x .answer, x .bytes)
 
 -- ---- the line of a refusal
 

@@ -2,4 +2,5 @@
 pub mod Decimal
 pub mod Table
 pub mod Refusal
+pub mod SlackTable
 pub mod Steps

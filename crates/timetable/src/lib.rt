@@ -1,4 +1,4 @@
-// Writes the timetable of a plan into a lent buffer (document 01, "Timetable and program").
+// Writes the timetable of a plan, and its margins, into a lent buffer (document 01, "Timetable and program"; document 02, 2).
 ghost use mathlib.Core.Path.{_≡_};
 ghost use Prim.Native.Nat.{_≤_};
 ghost use lib.ListN.{length};
@@ -15,11 +15,16 @@ use simulation::Simulation;
 mod decimal;
 mod lines;
 mod refusal;
+mod slacks;
 
 pub use refusal::put_refusal;
+pub use slacks::slack_table;
 
 // The bytes of the longest timetable.
 pub const LONGEST_TIMETABLE: usize = 1306;
+
+// Bytes enough for every text of margins.
+pub const SLACK_ROOM: usize = 1678;
 
 // The bytes written, with number and place 0; or a refusal's number and place.
 pub struct Written {

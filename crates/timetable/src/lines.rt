@@ -11,14 +11,14 @@ use crate::decimal::decimal_length;
 use crate::decimal::put_decimal;
 use plan::MOST_TASKS;
 
-fn wide(x: u32) -> usize
+pub fn wide(x: u32) -> usize
     ensures { λ r. ⌜ r ≡ x ⌝ }
 {
     x as usize
 }
 
 // The instant of task t, from the starts or the finishes; 0 past the last task.
-fn instant_of(instants: &[u32], t: usize) -> usize
+pub fn instant_of(instants: &[u32], t: usize) -> usize
     ensures { λ r. ⌜ r ≡ entryAt (now (instants .entry)) t ⌝ }
 {
     if instants.len() <= t {
@@ -28,7 +28,7 @@ fn instant_of(instants: &[u32], t: usize) -> usize
 }
 
 // Writes a number and the byte that ends it.
-fn put_field(buffer: &mut [u8], at: usize, x: usize, mark: u8) -> usize
+pub fn put_field(buffer: &mut [u8], at: usize, x: usize, mark: u8) -> usize
     requires { ⌜ Room (now buffer) at (field x mark) ⌝ }
     ensures { λ r. ⌜ Put (now (buffer .entry)) at (field x mark) (now (buffer .exit)) r ⌝ }
 {
