@@ -1,4 +1,4 @@
--- What the program answers to a plan text (document 01, "Timetable and program"). Assumes nothing.
+-- What the programs answer to a plan text (document 01, "Timetable and program"; document 02, 2). Assumes nothing.
 use mathlib.Core.Bool.{cond}
 use mathlib.Core.List.{List}
 use Prim.Native.Nat.{ℕ}
@@ -9,13 +9,25 @@ use Rattle.plan_text.specs.Text.{readText}
 use Rattle.simulation.specs.Simulated.{worstCase}
 use Rattle.timetable.specs.Table.{textOf}
 use Rattle.timetable.specs.Refusal.{refusalLine}
+use Rattle.timetable.specs.SlackTable.{slackTextOf}
 
--- "the timetable of worst times, or one line: `refused`, number, place": 1 to 7 of the reading, then 8 to 11 of the check
-unfoldable pub answerTo : Answer → List ℕ
-answerTo a =
+-- what is shown, "or one line: `refused`, number, place": 1 to 7 of the reading, then 8 to 11 of the check
+unfoldable pub orRefused : Answer → List ℕ → List ℕ
+orRefused a shown =
     let s = worstCase (a .plan) (a .constraint) in
     let v = firstRefusal (refused (a .number) (a .place)) (refused (s .number) (s .place)) in
-    cond (eqb (v .number) 0) (textOf (a .constraint) s) (refusalLine (v .number) (v .place))
+    cond (eqb (v .number) 0) shown (refusalLine (v .number) (v .place))
+
+-- "the timetable of worst times"
+unfoldable pub answerTo : Answer → List ℕ
+answerTo a = orRefused a (textOf (a .constraint) (worstCase (a .plan) (a .constraint)))
+
+-- the margins (document 02, 2)
+unfoldable pub slackAnswerTo : Answer → List ℕ
+slackAnswerTo a = orRefused a (slackTextOf (a .plan) (worstCase (a .plan) (a .constraint)))
 
 unfoldable pub answerText : List ℕ → List ℕ
 answerText text = answerTo (readText text)
+
+unfoldable pub slackAnswerText : List ℕ → List ℕ
+slackAnswerText text = slackAnswerTo (readText text)

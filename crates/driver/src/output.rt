@@ -32,13 +32,20 @@ pub fn put_number(out: &mut [u8; WIDTH], at: usize, n: u64) -> usize {
     put_text(out, end, &digits[..k])
 }
 
+// A tab, and the sign of a number that is below zero.
+fn put_sign(out: &mut [u8; WIDTH], at: usize, negative: bool) -> usize {
+    if negative {
+        return put_text(out, at, b"\t-");
+    }
+    put_byte(out, at, b'\t')
+}
+
 // A tab and a number that may be below zero.
 pub fn put_signed(out: &mut [u8; WIDTH], at: usize, x: i64) -> usize {
     let s = slack::parts_of(x);
     let mut digits = [0u8; 20];
     let k = io::decimal(s.size as u64, &mut digits);
-    let sign: &[u8] = if s.negative { b"\t-" } else { b"\t" };
-    let end = put_text(out, at, sign);
+    let end = put_sign(out, at, s.negative);
     put_text(out, end, &digits[..k])
 }
 

@@ -2,17 +2,18 @@
 use mathlib.Core.Path.{_≡_, refl}
 use mathlib.Core.Bool.{true}
 use mathlib.Core.List.{List}
-use Prim.Native.Nat.{ℕ, _*_, _≤_, _<_}
+use Prim.Native.Nat.{ℕ, _*_, _≤_, _<_, zero-le}
 use native.Mathlib.Nat.{lt-of-lt-of-le}
 use native.Mathlib.Omega.{arith}
-use borrow.Author.Tests.{eqb-true, ltb-true}
-use lib.Dec.{eqb}
-use lib.IntN.{ℤ, pos, negsuc, _-ℤ_}
-use lib.ListN.{getD, replicate, getD-replicate}
+use borrow.Author.Tests.{eqb-true, ltb-true, ltb-false}
+use lib.Dec.{eqb, ltb, leb→le}
+use lib.IntN.{ℤ, pos, negsuc, natAbs}
+use lib.ListN.{length, getD, replicate, getD-replicate, List·getD-eq-default}
 use lib.Signed.{_≤ℤ_, leZ-yes}
-use Rattle.task_set.specs.Bounded.{any}
+use Rattle.task_set.specs.Bounded.{any, tabulate}
 use Rattle.task_set.proofs.Truth.{by-test}
-use Rattle.task_set.proofs.Tables.{getD-tabulate}
+use Rattle.task_set.proofs.Search.{first-is}
+use Rattle.task_set.proofs.Tables.{length-tabulate, getD-tabulate}
 use Rattle.plan.specs.declared.Plan.{Plan}
 use Rattle.plan.specs.declared.Constraint.{Constraint}
 use Rattle.plan.specs.Rules.{mostTasks, longestTime, latestDeadline, deadlineOf}
@@ -25,7 +26,7 @@ use Rattle.simulation.specs.declared.Simulation.{Simulation}
 use Rattle.simulation.specs.Simulated.{ran, worstCase}
 use Rattle.simulation.proofs.Ran.{worst-taken, worst-runs}
 use Rattle.slack.specs.declared.Slacks.{Slacks}
-use Rattle.slack.specs.Margins.{isDue, slackOf, slackAt, noSlacks, someSlacks, slacksIn, slacksOf, leastSlack, greatestSlack, InRange}
+use Rattle.slack.specs.Margins.{isDue, slackOf, slackAt, isTightest, tightest, noSlacks, someSlacks, slacksIn, slacksOf, leastSlack, greatestSlack, InRange}
 use Rattle.slack.proofs.Differences.{difference-mono}
 
 -- the paper's numbers
@@ -35,7 +36,7 @@ least-is = refl
 greatest-is : greatestSlack ≡ pos 65534
 greatest-is = refl
 
-abbrev Between : ℤ → Type 0
+abbrev pub Between : ℤ → Type 0
 Between x = (leastSlack ≤ℤ x) × (x ≤ℤ greatestSlack)
 
 zero-between : Between (pos 0)
@@ -43,7 +44,7 @@ zero-between = (leZ-yes tt, leZ-yes tt)
 
 -- in the run of worst times a task takes at least one tick, and no more than all tasks take together
 module _ {p : Plan} {c : Constraint} (a : Accepted p c) where
-  finish-between : (t : ℕ) → t < p .tasks → let f = getD (ran p c (worst p c) .finishes) t 0 in
+  pub finish-between : (t : ℕ) → t < p .tasks → let f = getD (ran p c (worst p c) .finishes) t 0 in
       (1 ≤ f) × (f ≤ mostTasks * longestTime)
   unfolding ran horizon
   finish-between t l =
@@ -74,22 +75,51 @@ module _ {p : Plan} {c : Constraint} (a : Accepted p c) where
             difference-mono d f latestDeadline 1 (omega (arith, r, q)),
           )
 
+-- its size, whatever its sign
+pub between-size : (x : ℤ) → Between x → natAbs x ≤ mostTasks * longestTime
+between-size (pos n) b = omega (arith, leb→le n _ (b .1 .le))
+between-size (negsuc n) b = omega (arith, leb→le n _ (b .0 .le))
+
 -- ---- the answers
 
-abbrev Ranged : Slacks → Type 0
-Ranged s = InRange (s .slacks)
+pub record Ranged (r : Slacks) : Type 0 where
+  pub each : InRange (r .slacks)
+  pub least : Between (r .least)
+  pub task : r .task ≤ mostTasks
 
 none-ranged : (number place : ℕ) → Ranged (noSlacks number place)
 none-ranged number place =
     let z : (t : ℕ) → t < mostTasks → slackAt (replicate mostTasks (pos 0)) t ≡ pos 0 =
     λ t. getD-replicate mostTasks t (pos 0) (pos 0) in
-    record { low = λ t l. rw (z t l) (zero-between .0); high = λ t l. rw (z t l) (zero-between .1) }
+    record {
+      each = record { low = λ t l. rw (z t l) (zero-between .0); high = λ t l. rw (z t l) (zero-between .1) };
+      least = zero-between;
+      task = zero-le;
+    }
 
-some-ranged : (deadlines finishes : List ℕ) → ((t : ℕ) → Between (slackOf deadlines finishes t)) → Ranged (someSlacks deadlines finishes)
-unfolding someSlacks
-some-ranged deadlines finishes h =
-    let z = getD-tabulate mostTasks (slackOf deadlines finishes) in
-    record { low = λ t l. rw (z t (pos 0) l) (h t .0); high = λ t l. rw (z t (pos 0) l) (h t .1) }
+module _ (deadlines finishes : List ℕ) (h : (t : ℕ) → Between (slackOf deadlines finishes t)) where
+  abbrev slacks : List ℤ
+  slacks = tabulate mostTasks (slackOf deadlines finishes)
+
+  listed : (t : ℕ) → Between (slackAt slacks t)
+  listed t = by-test (ltb t mostTasks) (λ e. inside (ltb-true t mostTasks e)) (λ e. past (ltb-false t mostTasks e))
+    where
+      inside : t < mostTasks → Between (slackAt slacks t)
+      inside l = rw (getD-tabulate mostTasks (slackOf deadlines finishes) t (pos 0) l) (h t)
+
+      past : mostTasks ≤ t → Between (slackAt slacks t)
+      past l =
+          let m : length slacks ≤ t = rw (length-tabulate mostTasks (slackOf deadlines finishes)) l in
+          rw (List·getD-eq-default slacks (pos 0) m) zero-between
+
+  some-ranged : Ranged (someSlacks deadlines finishes)
+  unfolding someSlacks tightest
+  some-ranged =
+      record {
+        each = record { low = λ t l. listed t .0; high = λ t l. listed t .1 };
+        least = listed _;
+        task = first-is mostTasks (isTightest deadlines slacks) .searched .within;
+      }
 
 pub in-range : (p : Plan) (c : Constraint) → Ranged (slacksOf p c)
 unfolding slacksOf slacksIn

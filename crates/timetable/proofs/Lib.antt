@@ -11,3 +11,5 @@ pub mod Signs
 pub mod Outcomes
 -- no timetable is longer than the longest
 pub mod Longest
+-- no text of margins is longer than there is room for
+pub mod SlackRoom

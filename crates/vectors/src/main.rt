@@ -1,8 +1,10 @@
-// Plan texts through the reader, and through the answer that the program writes. Standard input has records: a line that says
+// Plan texts through the reader, and through the answers that the programs write. Standard input has records: a line that says
 // what the text is, a line with a count n, and n bytes. For each it writes that line with the number and the place that reading
-// gives; if the text is accepted, a line with its counts and what is kept of task 3 and of position 3; then the answer.
+// gives; if the text is accepted, a line with its counts and what is kept of task 3 and of position 3; then the answer, and the
+// answer with the margins.
 ghost use Prim.Native.Nat.{_<_, _≤_};
 use bench_answer::MOST_ANSWER;
+use bench_answer::MOST_SLACK_ANSWER;
 use libc::STDIN_FILENO;
 use libc::STDOUT_FILENO;
 use plan::Constraint;
@@ -36,6 +38,7 @@ fn show_plan(p: Plan) {
     put_named(b"best", plan::time_of(&p.bcet, 3, 1) as u64);
     put_named(b"worst", plan::time_of(&p.wcet, 3, 1) as u64);
     put_named(b"predecessors", plan::predecessors_of(&p.predecessors, 3));
+    put_named(b"deadline", plan::deadline_of(&p.deadlines, 3) as u64);
 }
 
 fn show_constraint(c: Constraint) {
@@ -63,9 +66,16 @@ fn show_answer(s: &[u8]) {
     put(&out[..length]);
 }
 
+fn show_slack_answer(s: &[u8]) {
+    let mut out = [0; MOST_SLACK_ANSWER];
+    let length = bench_answer::slack_answer(s, &mut out);
+    put(&out[..length]);
+}
+
 fn show(s: &[u8]) {
     show_reading(s);
     show_answer(s);
+    show_slack_answer(s);
 }
 
 // The bytes from a up to e, or none where that is no part.

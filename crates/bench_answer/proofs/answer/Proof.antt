@@ -1,26 +1,35 @@
 -- `bench_answer::answer` meets its contract. Assumes nothing.
 use native.Mathlib.Omega.{arith}
 use borrow.Author.Needs.{needs}
-use Rattle.bench_answer.proofs.Answered.{unread, refuses-it, times-it}
+use Rattle.timetable.specs.Table.{worstTimetabled, worstBufferAfter}
+use Rattle.timetable.proofs.Longest.{longest-worst}
+use Rattle.bench_answer.specs.Answer.{answerTo, answerText}
+use Rattle.bench_answer.proofs.Answered.{as-read, unread, refuses-it, shows-it}
 use Rattle.bench_answer.proofs.answer.Statement.{statement}
 use Rattle.bench_answer.proofs.answer.Tie as tie
 
 returns : tie.Need-returns
+unfolding answerTo answerText
 returns c =
-    let i = c .before .before in unread _ (i .before .read .ensures) _ (omega arith) (i .if1 .taken) (c .put-refusal .ensures)
+    let i = c .before .before in
+    as-read answerTo _ (i .before .read .ensures) (unread _ _ _ (omega arith) (i .if1 .taken) (c .put-refusal .ensures))
 
 returns-2 : tie.Need-returns-2
+unfolding answerTo answerText worstTimetabled worstBufferAfter
 returns-2 c =
     let w = c .before .before .before .before in
     let i = w .before .before in
-    refuses-it _ (i .before .read .ensures) _ (omega arith) (i .if1 .left) (w .worst-timetable .ensures)
-    (c .before .before .if2 .taken) (c .put-refusal2 .ensures)
+    as-read answerTo _ (i .before .read .ensures)
+    (refuses-it _ _ _ (omega arith) (i .if1 .left) (λ q. omega (arith, longest-worst _ _ q)) (w .worst-timetable .ensures)
+    (c .before .before .if2 .taken) (c .put-refusal2 .ensures))
 
 returns-3 : tie.Need-returns-3
+unfolding answerTo answerText worstTimetabled worstBufferAfter
 returns-3 c =
     let w = c .before .before in
     let i = w .before .before in
-    times-it _ (i .before .read .ensures) _ (omega arith) (i .if1 .left) (w .worst-timetable .ensures) (c .if2 .left)
+    as-read answerTo _ (i .before .read .ensures)
+    (shows-it _ _ _ (omega arith) (i .if1 .left) (λ q. omega (arith, longest-worst _ _ q)) (w .worst-timetable .ensures) (c .if2 .left))
 
 pub answer-spec : {M : Type 1} → statement M
 answer-spec =

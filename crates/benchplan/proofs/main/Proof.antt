@@ -2,6 +2,7 @@
 use native.Mathlib.Omega.{arith}
 use lib.ListN.{length-take}
 use borrow.Author.Needs.{needs}
+use Rattle.bench_answer.specs.Answer.{answerText}
 use Rattle.bench_answer.proofs.Answered.{inside}
 use Rattle.benchplan.proofs.main.Statement.{statement}
 use Rattle.benchplan.proofs.main.Tie as tie
@@ -9,6 +10,6 @@ use Rattle.benchplan.proofs.main.Tie as tie
 pub main-spec : {M : Type 1} → statement M
 main-spec =
     tie.close (tie.spec (λ c κs. search needs) (λ c. search needs) (λ c κs. search needs) (λ c. search needs)
-    (λ c. search needs) (λ c κs. search needs) (λ c. inside _ _ (c .answer .ensures))
-    (λ c. simp length-take (omega (arith, inside _ _ (c .before .answer .ensures)))) (λ c κs. search needs)
+    (λ c. search needs) (λ c κs. search needs) (λ c. inside answerText _ _ (c .answer .ensures))
+    (λ c. simp length-take (omega (arith, inside answerText _ _ (c .before .answer .ensures)))) (λ c κs. search needs)
     (λ c. search needs))

@@ -11,7 +11,7 @@ returns : tie.Need-returns
 unfolding slacksOf
 returns c =
     let e = c .slacks-in .ensures ∙ ap (slacksIn _) (c .before .bound .ensures .0) in
-    (e, subst (λ (s : Slacks). InRange (s .slacks)) (sym e) (in-range _ _))
+    (e, subst (λ (s : Slacks). InRange (s .slacks)) (sym e) (in-range _ _ .each))
 
 pub slacks-of-spec : {M : Type 1} → statement M
 slacks-of-spec = tie.close (tie.spec (λ c κs. search needs) (λ c κs. search needs) returns)
