@@ -88,6 +88,7 @@ pub record Ranged (r : Slacks) : Type 0 where
   pub task : r .task ≤ mostTasks
 
 none-ranged : (number place : ℕ) → Ranged (noSlacks number place)
+unfolding noSlacks
 none-ranged number place =
     let z : (t : ℕ) → t < mostTasks → slackAt (replicate mostTasks (pos 0)) t ≡ pos 0 =
     λ t. getD-replicate mostTasks t (pos 0) (pos 0) in

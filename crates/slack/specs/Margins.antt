@@ -36,7 +36,7 @@ unfoldable pub tightest : List ℕ → List ℤ → ℕ
 tightest deadlines slacks = first mostTasks (isTightest deadlines slacks)
 
 -- zeros, and no deadline: where refused, and where there are none
-abbrev pub noSlacks : ℕ → ℕ → Slacks
+unfoldable pub noSlacks : ℕ → ℕ → Slacks
 noSlacks number place =
     record {
       number = number;

@@ -79,10 +79,11 @@ fn slack_of<'a>(deadlines: &'a [u32; MOST_TASKS], finishes: &'a [u32; MOST_TASKS
     ensures { λ r. ⌜ r ≡ slackOf (now (deadlines .entry)) (now (finishes .entry)) t ⌝ }
 {
     let d = plan::deadline_of(deadlines, t);
+    let f = finishes[t];
     if d == 0 {
         return 0;
     }
-    difference(d, finishes[t])
+    difference(d, f)
 }
 
 // The slack of each task, by task number.

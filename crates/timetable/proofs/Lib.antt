@@ -5,8 +5,8 @@ pub mod Digits
 pub mod Stores
 -- texts one after the other, and their lengths
 pub mod Text
--- numbers with a sign, and the lines of slacks
-pub mod Signs
+-- the lines of slacks, and the text that they make
+pub mod SlackLines
 -- a text or a refusal in a lent buffer
 pub mod Outcomes
 -- no timetable is longer than the longest

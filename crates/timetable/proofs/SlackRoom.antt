@@ -29,7 +29,7 @@ use Rattle.timetable.specs.Table.{joined}
 use Rattle.timetable.specs.SlackTable.{signedField, slackLine, slackLineOf, leastLine, noDeadlines, slackTextBy, slackTextOf, slackRoom}
 use Rattle.timetable.proofs.Digits.{decimal-mono}
 use Rattle.timetable.proofs.Text.{length-joined}
-use Rattle.timetable.proofs.Signs.{slack-length}
+use Rattle.timetable.proofs.SlackLines.{slack-length}
 
 abbrev digits : ℕ → ℕ
 digits x = length (decimal x)

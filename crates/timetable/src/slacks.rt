@@ -96,12 +96,17 @@ fn task_length<'a>(
     ensures { λ r. ⌜ (r ≤ 85)
         × (r ≡ length (slackLineOf (now (deadlines .entry)) (now (finishes .entry)) (now (slacks .entry)) t)) ⌝ }
 {
-    let d = plan::deadline_of(deadlines, t);
-    if d == 0 {
+    let deadline = plan::deadline_of(deadlines, t);
+    if deadline == 0 {
         return 0;
     }
     let x = slacks[t];
-    slack_length(t, wide(d), instant_of(finishes, t), slack::parts_of(x))
+    slack_length(
+        t,
+        wide(deadline),
+        instant_of(finishes, t),
+        slack::parts_of(x),
+    )
 }
 
 // How many bytes the lines of all tasks with a deadline have.

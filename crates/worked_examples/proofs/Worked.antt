@@ -8,7 +8,7 @@ use Rattle.dispatch_theory.specs.Sums.{sum, greatest}
 use Rattle.runs.specs.Running.{entries, typeIn, typeOf, worst, allowed, cleared, busy, mayStart, dispatch, step, opening, timed, over, horizon, ended, response}
 use Rattle.runs.specs.Journal.{idle, overdue, refusal, hear, newlyStarted, answer, openingAnswer, notesFrom, answersFrom, journal, answers}
 use Rattle.simulation.specs.Simulated.{outside, timesVerdict, simulationVerdict, ran, notRun, worstCase}
-use Rattle.slack.specs.Margins.{slackOf, isTightest, tightest, someSlacks, slacksIn, slacksOf}
+use Rattle.slack.specs.Margins.{slackOf, isTightest, tightest, noSlacks, someSlacks, slacksIn, slacksOf}
 use Rattle.worked_examples.specs.PlanA.{times, planWith, planOne, planDue, planA, fiveEntries, orderA, orderB}
 use Rattle.worked_examples.specs.Table.{run, check, simulate, listed, ticks, finishes, marginsOf, margins, due, table, Holds}
 
@@ -18,7 +18,7 @@ unfolding all any count first tabulate has insert setOf timeOf predecessorsOf de
     firstRefusal verdict sum greatest entries typeIn typeOf worst allowed cleared busy mayStart dispatch step opening
     timed over horizon ended response idle overdue refusal hear newlyStarted answer openingAnswer notesFrom
     answersFrom journal answers outside timesVerdict simulationVerdict ran notRun worstCase slackOf isTightest
-    tightest someSlacks slacksIn slacksOf times planWith planOne planDue planA fiveEntries orderA orderB run check
-    simulate listed ticks finishes marginsOf margins due table
+    tightest noSlacks someSlacks slacksIn slacksOf times planWith planOne planDue planA fiveEntries orderA orderB run
+    check simulate listed ticks finishes marginsOf margins due table
 worked =
     (refl, (refl, (refl, (refl, (refl, (refl, (refl, (refl, (refl, (refl, (refl, (refl, (refl, (refl, (refl, (refl, (refl, (refl, (refl, tt)))))))))))))))))))

@@ -6,7 +6,7 @@ use mir.Syntax.{w64}
 use mir.ValLaws.{toZ-ofZ}
 use Rattle.timetable.specs.SlackTable.{slackLine, slackLineOf}
 use Rattle.timetable.proofs.Stores.{put-length}
-use Rattle.timetable.proofs.Signs.{not-due, due}
+use Rattle.timetable.proofs.SlackLines.{not-due, due}
 use Rattle.timetable.proofs.slacks.put_task.Statement.{statement}
 use Rattle.timetable.proofs.slacks.put_task.Tie as tie
 

@@ -1,7 +1,7 @@
 -- `timetable::slacks::slack_length` meets its contract. Assumes nothing.
 use native.Mathlib.Omega.{arith}
 use borrow.Author.Needs.{needs}
-use Rattle.timetable.proofs.Signs.{slack-length}
+use Rattle.timetable.proofs.SlackLines.{slack-length}
 use Rattle.timetable.proofs.slacks.slack_length.Statement.{statement}
 use Rattle.timetable.proofs.slacks.slack_length.Tie as tie
 

@@ -5,7 +5,7 @@ use borrow.Author.Needs.{needs, sfits-of}
 use lib.ListN.{length}
 use mir.Syntax.{w64}
 use mir.ValLaws.{toZ-ofZ}
-use Rattle.timetable.proofs.Signs.{not-due, due}
+use Rattle.timetable.proofs.SlackLines.{not-due, due}
 use Rattle.timetable.proofs.slacks.task_length.Statement.{statement}
 use Rattle.timetable.proofs.slacks.task_length.Tie as tie
 

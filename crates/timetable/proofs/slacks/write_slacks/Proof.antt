@@ -8,7 +8,7 @@ use mir.ValLaws.{toZ-ofZ}
 use Rattle.timetable.specs.SlackTable.{slackTextBy, slackTextOf}
 use Rattle.timetable.specs.Steps.{Room}
 use Rattle.timetable.proofs.Stores.{put-length}
-use Rattle.timetable.proofs.Signs.{text-by}
+use Rattle.timetable.proofs.SlackLines.{text-by}
 use Rattle.timetable.proofs.Outcomes.{refuses, too-short, writes}
 use Rattle.timetable.proofs.slacks.write_slacks.Statement.{statement}
 use Rattle.timetable.proofs.slacks.write_slacks.Tie as tie
