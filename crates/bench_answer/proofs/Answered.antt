@@ -67,7 +67,8 @@ module _ (a : Answer) (shown b : List ℕ) (enough : 50 ≤ length b) where
     -- what is not refused is written
     all-fits : s .number ≡ 0 → (w ≡ record { number = 0; place = 0; written = length shown }) × (b₁ ≡ atStart shown b)
     all-fits q =
-        let o = fits (refused (s .number) (s .place)) shown b q (room q) in (wrote .0 ∙ sym (o .answer), wrote .1 ∙ sym (o .bytes))
+        let o = fits (refused (s .number) (s .place)) shown b q (room q) in
+        (wrote .0 ∙ sym (o .answer), wrote .1 ∙ sym (o .bytes))
 
     pub refuses-it : {n : ℕ} {b₂ : List ℕ} → (w .number ≡ 0 → ⊥) → Lined (w .number) (w .place) b₁ n b₂ → Gives n b₂
     unfolding orRefused firstRefusal

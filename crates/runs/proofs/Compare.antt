@@ -85,7 +85,7 @@ module _ {p : Plan} {c : Constraint} (a : Accepted p c) where
         compare-start (lawful a) (greedy a d) (greedy a d′) (λ j m. shorter (taskAt c j) (a .task j m)) (position c t)
         (position-low a t l)
 
-    finish-no-later : (t : ℕ) → t < p .tasks → finishOf p c d t ≤ finishOf p c d′ t
+    pub finish-no-later : (t : ℕ) → t < p .tasks → finishOf p c d t ≤ finishOf p c d′ t
     finish-no-later t l = omega (arith, start-no-later t l, shorter t l)
 
     finished-no-later : (i t : ℕ) → hasFinished (timed p c d′ i) t ≡ true → hasFinished (timed p c d i) t ≡ true

@@ -1,5 +1,5 @@
 -- The answer from a run, branch by branch. Assumes nothing.
-use mathlib.Core.Path.{_≡_, refl, sym, ap, _∙_}
+use mathlib.Core.Path.{_≡_, refl}
 use mathlib.Core.Bool.{true}
 use mathlib.Core.List.{List}
 use Prim.Native.Nat.{ℕ, _≤_, _<_}
@@ -10,7 +10,6 @@ use Rattle.task_set.specs.Bounded.{any, tabulate}
 use Rattle.plan.specs.declared.Plan.{Plan}
 use Rattle.plan.specs.Rules.{mostTasks}
 use Rattle.simulation.specs.declared.Simulation.{Simulation}
-use Rattle.slack.specs.declared.Slacks.{Slacks}
 use Rattle.slack.specs.Margins.{isDue, slackOf, slackAt, tightest, noSlacks, someSlacks, slacksIn}
 
 module _ (p : Plan) (s : Simulation) where
@@ -23,7 +22,8 @@ module _ (p : Plan) (s : Simulation) where
     unfolding slacksIn
     in-none l = rw (eq-eqb (s .number) 0 z, any-is, le-ltb t mostTasks l) refl
 
-    pub in-some : t < mostTasks → {slacks : List ℤ} {least : ℤ} → slacks ≡ tabulate mostTasks (slackOf (p .deadlines) (s .finishes))
+    pub in-some : t < mostTasks → {slacks : List ℤ} {least : ℤ}
+        → slacks ≡ tabulate mostTasks (slackOf (p .deadlines) (s .finishes))
         → t ≡ tightest (p .deadlines) slacks → least ≡ slackAt slacks t
         → record { number = 0; place = 0; any = true; least = least; task = t; slacks = slacks } ≡ slacksIn p s
     unfolding slacksIn someSlacks

@@ -11,8 +11,8 @@ use borrow.Author.Tests.{eqb-true, eq-eqb, lt-ltb, le-ltb}
 use lib.Dec.{T, eqb, ltb, ltb→lt, le→leb}
 use lib.IntN.{ℤ, pos, negsuc}
 use lib.Signed.{ltZ, leZ, _≤ℤ_, _<ℤ_, ltZ-no, leZ-yes, ≤ℤ-refl, <ℤ-≤ℤ-trans, clashℤ}
-use Rattle.task_set.specs.Bounded.{all, any, implies}
-use Rattle.task_set.proofs.Truth.{clash, by-test, off, and-left, and-right, and-both, or-left, or-cases, or-right-off, implies-intro, implies-elim}
+use Rattle.task_set.specs.Bounded.{any}
+use Rattle.task_set.proofs.Truth.{clash, off, and-left, and-right, and-both, or-left, or-cases, or-right-off, implies-intro, implies-elim}
 use Rattle.task_set.proofs.Bounded.{all-intro, all-elim, any-intro, any-none}
 use Rattle.task_set.proofs.Search.{First, first-unique}
 use Rattle.plan.specs.Rules.{mostTasks}
@@ -157,6 +157,7 @@ module _ (deadlines : List ℕ) (slacks : List ℤ) where
   -- and there is one exactly if some task has a deadline
   pub found-any : {t found : ℕ} {least : ℤ} → mostTasks ≤ t → Found t found least → any mostTasks due ≡ ltb found mostTasks
   found-any {t} {found} {least} l f =
-      ⊎-elim (λ n. any-none mostTasks due (λ u m. n .1 u (lt-of-lt-of-le m l)) ∙ sym (le-ltb found mostTasks (omega (arith, n .0))))
+      ⊎-elim
+      (λ n. any-none mostTasks due (λ u m. n .1 u (lt-of-lt-of-le m l)) ∙ sym (le-ltb found mostTasks (omega (arith, n .0))))
       (λ b. let m : found < mostTasks = omega (arith, b .before, f .within) in
       any-intro mostTasks due found m (b .has) ∙ sym (lt-ltb found mostTasks m)) (f .so-far)

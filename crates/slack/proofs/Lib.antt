@@ -9,3 +9,5 @@ pub mod Least
 pub mod Answers
 -- the range that every slack lies in
 pub mod Range
+-- what a slack tells of every run
+pub mod KeptDeadlines

@@ -21,6 +21,7 @@ use Rattle.plan.proofs.Accepted.{Accepted}
 use Rattle.dispatch_theory.proofs.Sums.{sum-le}
 use Rattle.runs.specs.Running.{worst, orZero, horizon, ended}
 use Rattle.runs.proofs.Positions.{worst-short, worst-allowed, allowed-lasts}
+use Rattle.runs.proofs.Orders.{finishOf}
 use Rattle.runs.proofs.Response.{ended-finish, finish-by}
 use Rattle.simulation.specs.declared.Simulation.{Simulation}
 use Rattle.simulation.specs.Simulated.{ran, worstCase}
@@ -42,15 +43,25 @@ Between x = (leastSlack ≤ℤ x) × (x ≤ℤ greatestSlack)
 zero-between : Between (pos 0)
 zero-between = (leZ-yes tt, leZ-yes tt)
 
--- in the run of worst times a task takes at least one tick, and no more than all tasks take together
 module _ {p : Plan} {c : Constraint} (a : Accepted p c) where
+  -- the finish of a task in the run of worst times
+  pub worst-finish : (t : ℕ) → t < p .tasks → getD (ran p c (worst p c) .finishes) t 0 ≡ finishOf p c (worst p c) t
+  unfolding ran
+  worst-finish t l =
+      let d = worst p c in
+      rw (
+        getD-tabulate mostTasks (λ t. orZero (ended p c d .finish t)) t 0 (lt-of-lt-of-le l (a .few-tasks)),
+        ended-finish a d (allowed-lasts a d (worst-allowed a)) t l,
+      )
+
+  -- it takes at least one tick, and no more than all tasks take together
   pub finish-between : (t : ℕ) → t < p .tasks → let f = getD (ran p c (worst p c) .finishes) t 0 in
       (1 ≤ f) × (f ≤ mostTasks * longestTime)
-  unfolding ran horizon
+  unfolding horizon
   finish-between t l =
       let d = worst p c in
       let w = allowed-lasts a d (worst-allowed a) in
-      rw (getD-tabulate mostTasks (λ t. orZero (ended p c d .finish t)) t 0 (lt-of-lt-of-le l (a .few-tasks)), ended-finish a d w t l) (
+      rw (worst-finish t l) (
         omega (arith, w t l),
         omega (arith, finish-by a d w t l, sum-le (p .tasks) d longestTime (worst-short a), a .few-tasks),
       )

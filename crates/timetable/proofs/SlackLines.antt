@@ -33,7 +33,8 @@ module _ (deadlines finishes : List ℕ) (slacks : List ℤ) (t : ℕ) {d : ℕ}
 
 -- ---- the whole text, from what is found of a run: its slacks, and the least by its parts
 
-pub text-by : (p : Plan) (s : Simulation) {r : Slacks} {y : ℤ} {least : Parts} → r ≡ slacksIn p s → least ≡ partsOf y → y ≡ r .least
+pub text-by : (p : Plan) (s : Simulation) {r : Slacks} {y : ℤ} {least : Parts}
+    → r ≡ slacksIn p s → least ≡ partsOf y → y ≡ r .least
     → slackTextBy (p .deadlines) (s .finishes) (r .slacks) (r .any) least (r .task) ≡ slackTextOf p s
 text-by p s {r} {y} e f g =
     ap (λ (x : Parts). slackTextBy (p .deadlines) (s .finishes) (r .slacks) (r .any) x (r .task)) (f ∙ ap partsOf g)

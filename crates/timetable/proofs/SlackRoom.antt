@@ -1,32 +1,25 @@
 -- No text of margins needs more bytes than there is room for. Assumes nothing.
-use mathlib.Core.Path.{_≡_, refl, ap}
-use mathlib.Core.Bool.{Bool, true, false, cond}
-use mathlib.Core.List.{List, [], _∷_, _++_}
+use mathlib.Core.Path.{_≡_, refl}
+use mathlib.Core.Bool.{true}
 use Prim.Native.Nat.{ℕ, _+_, _*_, _≤_, _<_, zero-le}
 use native.Mathlib.Omega.{arith}
 use borrow.Author.Tests.{ltb-true}
-use lib.Dec.{ltb}
-use lib.IntN.{natAbs}
 use lib.ListN.{length, length-append}
 use Rattle.task_set.proofs.Truth.{by-test}
 use Rattle.plan.specs.declared.Plan.{Plan}
 use Rattle.plan.specs.declared.Constraint.{Constraint}
 use Rattle.plan.specs.Rules.{mostTasks, longestTime, latestDeadline, deadlineOf}
 use Rattle.plan.specs.Refusals.{entryAt}
-use Rattle.plan.proofs.Accepted.{Accepted}
-use Rattle.dispatch_theory.specs.Sums.{sum}
 use Rattle.dispatch_theory.proofs.Sums.{sum-le}
-use Rattle.runs.specs.Running.{worst}
 use Rattle.simulation.specs.declared.Simulation.{Simulation}
-use Rattle.simulation.specs.Simulated.{ran, worstCase}
+use Rattle.simulation.specs.Simulated.{worstCase}
 use Rattle.simulation.proofs.Ran.{worst-taken, worst-runs}
 use Rattle.slack.specs.declared.Slacks.{Slacks}
 use Rattle.slack.specs.declared.Parts.{Parts}
 use Rattle.slack.specs.Margins.{isDue, slackAt, partsOf, slacksIn, slacksOf}
 use Rattle.slack.proofs.Range.{Ranged, between-size, finish-between, in-range}
 use Rattle.timetable.specs.Decimal.{decimalUpto, decimal}
-use Rattle.timetable.specs.Table.{joined}
-use Rattle.timetable.specs.SlackTable.{signedField, slackLine, slackLineOf, leastLine, noDeadlines, slackTextBy, slackTextOf, slackRoom}
+use Rattle.timetable.specs.SlackTable.{signedField, slackLineOf, leastLine, slackTextBy, slackTextOf, slackRoom}
 use Rattle.timetable.proofs.Digits.{decimal-mono}
 use Rattle.timetable.proofs.Text.{length-joined}
 use Rattle.timetable.proofs.SlackLines.{slack-length}

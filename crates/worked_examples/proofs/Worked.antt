@@ -20,5 +20,37 @@ unfolding all any count first tabulate has insert setOf timeOf predecessorsOf de
     answersFrom journal answers outside timesVerdict simulationVerdict ran notRun worstCase slackOf isTightest
     tightest noSlacks someSlacks slacksIn slacksOf times planWith planOne planDue planA fiveEntries orderA orderB run
     check simulate listed ticks finishes marginsOf margins due table
-worked =
-    (refl, (refl, (refl, (refl, (refl, (refl, (refl, (refl, (refl, (refl, (refl, (refl, (refl, (refl, (refl, (refl, (refl, (refl, (refl, tt)))))))))))))))))))
+worked = (
+  refl,
+  (
+    refl,
+    (
+      refl,
+      (
+        refl,
+        (
+          refl,
+          (
+            refl,
+            (
+              refl,
+              (
+                refl,
+                (
+                  refl,
+                  (
+                    refl,
+                    (
+                      refl,
+                      (refl, (refl, (refl, (refl, (refl, (refl, (refl, (refl, tt)))))))),
+                    ),
+                  ),
+                ),
+              ),
+            ),
+          ),
+        ),
+      ),
+    ),
+  ),
+)

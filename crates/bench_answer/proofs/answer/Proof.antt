@@ -29,7 +29,8 @@ returns-3 c =
     let w = c .before .before in
     let i = w .before .before in
     as-read answerTo _ (i .before .read .ensures)
-    (shows-it _ _ _ (omega arith) (i .if1 .left) (λ q. omega (arith, longest-worst _ _ q)) (w .worst-timetable .ensures) (c .if2 .left))
+    (shows-it _ _ _ (omega arith) (i .if1 .left) (λ q. omega (arith, longest-worst _ _ q)) (w .worst-timetable .ensures)
+    (c .if2 .left))
 
 pub answer-spec : {M : Type 1} → statement M
 answer-spec =

@@ -10,7 +10,8 @@ use Rattle.slack.proofs.difference.Statement.{statement}
 use Rattle.slack.proofs.difference.Tie as tie
 
 -- what the machine subtracts
-computed : (c : tie.Start) → toZ w64 (c .args .deadline) -ℤ toZ w64 (c .args .finish) ≡ pos (c .args .deadline) -ℤ pos (c .args .finish)
+computed : (c : tie.Start) → let a = c .args in
+    toZ w64 (a .deadline) -ℤ toZ w64 (a .finish) ≡ pos (a .deadline) -ℤ pos (a .finish)
 computed c = machine-difference _ _ (c .fits .deadline .fits) (c .fits .finish .fits)
 
 fits : (c : tie.Start) → SFits w64 (pos (c .args .deadline) -ℤ pos (c .args .finish))

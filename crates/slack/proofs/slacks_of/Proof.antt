@@ -1,5 +1,5 @@
 -- `slack::slacks_of` meets its contract. Assumes nothing.
-use mathlib.Core.Path.{_≡_, sym, ap, subst, _∙_}
+use mathlib.Core.Path.{sym, ap, subst, _∙_}
 use borrow.Author.Needs.{needs}
 use Rattle.slack.specs.declared.Slacks.{Slacks}
 use Rattle.slack.specs.Margins.{slacksIn, slacksOf, InRange}

@@ -29,7 +29,8 @@ returns-3 c =
     let w = c .before .before in
     let i = w .before .before in
     as-read slackAnswerTo _ (i .before .read .ensures)
-    (shows-it _ _ _ (omega arith) (i .if1 .left) (λ q. omega (arith, slack-room _ _ q)) (w .slack-table .ensures) (c .if2 .left))
+    (shows-it _ _ _ (omega arith) (i .if1 .left) (λ q. omega (arith, slack-room _ _ q)) (w .slack-table .ensures)
+    (c .if2 .left))
 
 pub slack-answer-spec : {M : Type 1} → statement M
 slack-answer-spec =

@@ -1,5 +1,4 @@
 -- `timetable::slacks::put_least` meets its contract. Assumes nothing.
-use mathlib.Core.Path.{_∙_}
 use mathlib.Core.List.{_++_}
 use Prim.Native.Nat.{_+_}
 use native.Mathlib.Omega.{arith}

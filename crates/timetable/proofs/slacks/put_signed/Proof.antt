@@ -18,7 +18,8 @@ plain : (c : tie.Else1) → let a = c .before .before .args in Room (a .buffer .
 plain c = rw (c .if1 .left) at (c .before .before .pre)
 
 returns : tie.Need-returns
-returns c = rw (c .before .before .before .before .if1 .taken) (put-then (put-byte _ _ 45) (c .before .before .put-field .ensures))
+returns c =
+    let f = c .before .before in rw (f .before .before .if1 .taken) (put-then (put-byte _ _ 45) (f .put-field .ensures))
 
 returns-2 : tie.Need-returns-2
 returns-2 c = rw (c .before .before .before .before .if1 .left) (c .before .before .put-field2 .ensures)

@@ -16,7 +16,8 @@ returns c =
 pub put-slack-spec : {M : Type 1} → statement M
 put-slack-spec =
     tie.close (tie.spec (λ c κs. room-first _ (c .before .before .pre))
-    (λ c κs. let p = c .before .before .before in room-first _ (room-then (p .put-pair .ensures) _ (p .before .before .before .pre)))
+    (λ c κs. let p = c .before .before .before in
+    room-first _ (room-then (p .put-pair .ensures) _ (p .before .before .before .pre)))
     (λ c κs. let f = c .before .before .before in
     let p = pair f in
     room-then (f .put-field .ensures) _ (room-then (p .put-pair .ensures) _ (p .before .before .before .pre)))

@@ -1,8 +1,5 @@
 -- `timetable::slacks::slack_table` meets its contract. Assumes nothing.
-use mathlib.Core.Path.{subst}
 use borrow.Author.Needs.{needs}
-use Rattle.plan.specs.Refusals.{refused}
-use Rattle.simulation.specs.declared.Simulation.{Simulation}
 use Rattle.timetable.specs.SlackTable.{slackTextOf, slackTabled, slackBufferAfter}
 use Rattle.timetable.proofs.Outcomes.{by-run}
 use Rattle.timetable.proofs.slacks.slack_table.Statement.{statement}

@@ -11,8 +11,8 @@ returns : tie.Need-returns
 unfolding slackTextBy
 returns c =
     let s = c .before in
-    rw (s .before .before .if1 .taken)
-    (simp length-append (omega (arith, s .before .tasks-length .ensures .1, simp length-append at (s .signed-length .ensures .0))))
+    let l = simp length-append at (s .signed-length .ensures .0) in
+    rw (s .before .before .if1 .taken) (simp length-append (omega (arith, s .before .tasks-length .ensures .1)))
 
 returns-2 : tie.Need-returns-2
 unfolding slackTextBy

@@ -1,7 +1,7 @@
 -- `timetable::slacks::write_slacks` meets its contract. Assumes nothing.
 use mathlib.Core.Path.{_≡_, ap, _∙_}
 use native.Mathlib.Omega.{arith}
-use borrow.Author.Needs.{needs}
+use borrow.Author.Needs.{needs, sfits-of}
 use lib.ListN.{length}
 use mir.Syntax.{w64}
 use mir.ValLaws.{toZ-ofZ}
@@ -23,8 +23,11 @@ run q = q .before .before .before
 -- the text that is measured and written
 text : (q : tie.After-parts-of) → let r = q .before .before .slacks-in .result in
     let a = run q .before .before .args in
-    slackTextBy (a .t1 .deadlines) (a .t2 .finishes) (r .slacks) (r .any) (q .parts-of .result) (r .task) ≡ slackTextOf (a .t1) (a .t2)
-text q = text-by _ _ (q .before .before .slacks-in .ensures) (q .parts-of .ensures) (toZ-ofZ w64 _ (record { sfits = q .before .struct-told .given .1 .1 .1 .0 .1 }))
+    slackTextBy (a .t1 .deadlines) (a .t2 .finishes) (r .slacks) (r .any) (q .parts-of .result) (r .task)
+    ≡ slackTextOf (a .t1) (a .t2)
+text q =
+    text-by _ _ (q .before .before .slacks-in .ensures) (q .parts-of .ensures)
+    (toZ-ofZ w64 _ (sfits-of (q .before .struct-told .given .1 .1 .1 .0 .1)))
 
 -- its length, and room for it where the length is not above the buffer's
 needed : (l : tie.After-slacks-length) → let a = run (parted l) .before .before .args in
