@@ -10,7 +10,7 @@ use Rattle.runs.specs.Journal.{idle, overdue, refusal, hear, newlyStarted, answ
 use Rattle.simulation.specs.Simulated.{outside, timesVerdict, simulationVerdict, ran, notRun, worstCase}
 use Rattle.slack.specs.Margins.{slackOf, isTightest, tightest, noSlacks, someSlacks, slacksIn, slacksOf}
 use Rattle.worked_examples.specs.PlanA.{times, planWith, planOne, planDue, planA, fiveEntries, orderA, orderB}
-use Rattle.worked_examples.specs.Table.{run, check, simulate, listed, ticks, finishes, marginsOf, margins, due, table, Holds}
+use Rattle.worked_examples.specs.Table.{run, check, simulate, listed, ticks, finishes, marginsOf, margins, due, marginTable, table, Holds}
 
 pub worked : Holds table
 unfolding all any count first tabulate has insert setOf timeOf predecessorsOf deadlineOf usable countsOk unitsOk
@@ -19,38 +19,9 @@ unfolding all any count first tabulate has insert setOf timeOf predecessorsOf de
     timed over horizon ended response idle overdue refusal hear newlyStarted answer openingAnswer notesFrom
     answersFrom journal answers outside timesVerdict simulationVerdict ran notRun worstCase slackOf isTightest
     tightest noSlacks someSlacks slacksIn slacksOf times planWith planOne planDue planA fiveEntries orderA orderB run
-    check simulate listed ticks finishes marginsOf margins due table
-worked = (
-  refl,
-  (
-    refl,
-    (
-      refl,
-      (
-        refl,
-        (
-          refl,
-          (
-            refl,
-            (
-              refl,
-              (
-                refl,
-                (
-                  refl,
-                  (
-                    refl,
-                    (
-                      refl,
-                      (refl, (refl, (refl, (refl, (refl, (refl, (refl, (refl, tt)))))))),
-                    ),
-                  ),
-                ),
-              ),
-            ),
-          ),
-        ),
-      ),
-    ),
-  ),
-)
+    check simulate listed ticks finishes marginsOf margins due marginTable table
+worked =
+    (refl, (refl, (refl, (refl, (refl, (refl, (refl, (refl, (refl, (refl, (refl, (refl, (refl, (refl, (refl, margin-rows)))))))))))))))
+  where
+    margin-rows : Holds marginTable
+    margin-rows = (refl, (refl, (refl, (refl, tt))))

@@ -79,6 +79,16 @@ pub record Row : Type 0 where
 abbrev pub row : List ℕ → List ℕ → Row
 row computed stated = record { computed = computed; stated = stated }
 
+-- margins on plan A: late by one, just in time and early; equal ones, and tasks without deadline; none; and what 8 covers
+-- (document 02, 2)
+unfoldable pub marginTable : List Row
+marginTable =
+    row (margins (3 ∷ 5 ∷ 5 ∷ 0 ∷ 9 ∷ 0 ∷ [])) (1 ∷ 0 ∷ 1 ∷ 2 ∷ 1 ∷ 0 ∷ 0 ∷ 0 ∷ 0 ∷ 1 ∷ 0 ∷ 0 ∷ 1 ∷ 0 ∷ [])
+    ∷ row (margins (0 ∷ 7 ∷ 0 ∷ 10 ∷ 0 ∷ 0 ∷ [])) (1 ∷ 2 ∷ 0 ∷ 1 ∷ 0 ∷ 0 ∷ 2 ∷ 0 ∷ 0 ∷ 0 ∷ 2 ∷ 0 ∷ 0 ∷ 0 ∷ [])
+    ∷ row (margins (replicate 6 0)) (replicate 14 0)
+    ∷ row (due 65535 0 ++ due 65536 0 ++ due 65535 1) (0 ∷ 0 ∷ 8 ∷ 0 ∷ 8 ∷ 0 ∷ [])
+    ∷ []
+
 unfoldable pub table : List Row
 table =
     row (run planA orderA (worst planA orderA)) (0 ∷ 2 ∷ 2 ∷ 5 ∷ 6 ∷ 8 ∷ [])
@@ -96,11 +106,7 @@ table =
     ∷ row (run planA orderA (λ t. 1)) (0 ∷ 1 ∷ 1 ∷ 2 ∷ 2 ∷ 3 ∷ [])
     ∷ row (simulate (1 ∷ 1 ∷ 1 ∷ 1 ∷ 1 ∷ []) ++ simulate (1 ∷ 1 ∷ 0 ∷ 1 ∷ 1 ∷ [])) (0 ∷ 0 ∷ 18 ∷ 2 ∷ [])
     ∷ row (check planA orderA ++ check noPlan noConstraint) (0 ∷ 0 ∷ 8 ∷ 0 ∷ [])
-    ∷ row (margins (3 ∷ 5 ∷ 5 ∷ 0 ∷ 9 ∷ 0 ∷ [])) (1 ∷ 0 ∷ 1 ∷ 2 ∷ 1 ∷ 0 ∷ 0 ∷ 0 ∷ 0 ∷ 1 ∷ 0 ∷ 0 ∷ 1 ∷ 0 ∷ [])
-    ∷ row (margins (0 ∷ 7 ∷ 0 ∷ 10 ∷ 0 ∷ 0 ∷ [])) (1 ∷ 2 ∷ 0 ∷ 1 ∷ 0 ∷ 0 ∷ 2 ∷ 0 ∷ 0 ∷ 0 ∷ 2 ∷ 0 ∷ 0 ∷ 0 ∷ [])
-    ∷ row (margins (replicate 6 0)) (replicate 14 0)
-    ∷ row (due 65535 0 ++ due 65536 0 ++ due 65535 1) (0 ∷ 0 ∷ 8 ∷ 0 ∷ 8 ∷ 0 ∷ [])
-    ∷ []
+    ∷ marginTable
 
 -- every row is as stated
 abbrev pub Holds : List Row → Type 0
