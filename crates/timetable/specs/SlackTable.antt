@@ -1,4 +1,4 @@
--- The margins as text (document 02, 2): "task, deadline, worst finish, margin". Assumes nothing.
+-- The margins as text (document 02, 2), in the format that docs/DECISIONS.md fixes and the quotes name. Assumes nothing.
 use mathlib.Core.Bool.{Bool, cond}
 use mathlib.Core.List.{List, [], _∷_, _++_}
 use Prim.Native.Nat.{ℕ}
