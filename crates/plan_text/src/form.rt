@@ -1,7 +1,8 @@
 // The form of a line: a letter, then decimal fields, each after one tab.
 ghost use mathlib.Core.Path.{_≡_};
+ghost use Prim.Native.Nat.{_+_, _*_, _^_, _<_, _≤_};
 ghost use lib.ListN.{take};
-ghost use Rattle.plan_text.specs.Form.{digitValue, isDigit, lineOf, split, tab};
+ghost use Rattle.plan_text.specs.Form.{digitValue, isDigit, lineOf, mostDigits, split, tab};
 ghost use Rattle.plan_text.specs.Steps.{Digits, fieldOf, fieldsOf, firstPart, formFrom, noFields};
 use crate::Line;
 use crate::LineForm;
@@ -39,6 +40,15 @@ fn digit(b: u8) -> u32
     (b - b'0') as u32
 }
 
+// The value of the digits so far and one more. Ten times a value is eight times and twice it, by shifts: a controller may have no
+// multiplier.
+fn with_digit(value: u32, digit: u32) -> u32
+    requires { ⌜ (value < 10 ^ mostDigits) × (digit ≤ 9) ⌝ }
+    ensures { λ r. ⌜ r ≡ value * 10 + digit ⌝ }
+{
+    (value << 3) + (value << 1) + digit
+}
+
 // The first n bytes as a field. They are digits that make this value; a field has one at least, and no leading zero.
 fn field_of(s: &[u8], n: usize, value: u32) -> Field
     requires { ⌜ Digits (now s) n value ⌝ }
@@ -70,7 +80,7 @@ fn read_field(s: &[u8]) -> Field
         if !is_digit(b) {
             return Field::NoField;
         }
-        value = value * 10 + digit(b);
+        value = with_digit(value, digit(b));
         n += 1;
     }
     field_of(s, n, value)

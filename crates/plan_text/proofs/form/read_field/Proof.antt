@@ -51,17 +51,19 @@ returns-3 : tie.Need-returns-3 Inv-loop μ-loop
 returns-3 c =
     sym (field-odd _ _ (inside (c .before .before .before)) (sym (c .before .is-digit .ensures) ∙ not-true _ (c .if3 .taken)))
 
-add-value : tie.Need-add-value Inv-loop μ-loop
-add-value c =
+with-digit-requires : tie.Need-with-digit-requires Inv-loop μ-loop
+with-digit-requires c κs =
     let l = turn (c .before) in
-    omega (arith, value-fits (l .loop .inv .0), digit-small (getD (text l) (l .loop .n) 0) (digit-here (c .before)))
+    (value-fits (l .loop .inv .0), rw (c .digit .ensures) (digit-small (getD (text l) (l .loop .n) 0) (digit-here (c .before))))
 
 loop-again : tie.Need-loop-again Inv-loop μ-loop
 loop-again c =
-    let l = turn (c .before) in
-    let t = c .before .before .before .before .before .before .loop-test .taken in (
-      rw (c .digit .ensures) (digits-more (l .loop .inv .0) t (c .before .before .before .if2 .left) (digit-here (c .before))),
-      omega (arith, part-more tab (text l) (l .loop .n) t (c .before .before .before .before .if1 .left)),
+    let e = c .before .before in
+    let l = turn e in
+    let t = e .before .before .before .before .before .loop-test .taken in (
+      rw (c .with-digit .ensures, c .before .digit .ensures)
+          (digits-more (l .loop .inv .0) t (e .before .before .if2 .left) (digit-here e)),
+      omega (arith, part-more tab (text l) (l .loop .n) t (e .before .before .before .if1 .left)),
     )
 
 returns-4 : tie.Need-returns-4 Inv-loop μ-loop
@@ -74,6 +76,5 @@ read-field-spec =
     tie.close (tie.spec Inv-loop μ-loop (λ c. (digits-none _, search needs)) (λ c. search needs)
     (λ c κs. c .before .before .before .loop .inv .0) returns
     (λ c. sym (field-long _ _ (inside (c .before)) (c .if2 .taken))) (λ c κs. search needs) returns-3
-    (λ c. omega (arith, value-fits (c .before .before .before .before .before .before .loop .inv .0)))
-    (λ c κs. search needs) add-value (λ c. search needs) (λ c. search needs) loop-again
+    (λ c κs. search needs) with-digit-requires (λ c. search needs) (λ c. search needs) loop-again
     (λ c κs. c .before .loop .inv .0) returns-4)
