@@ -16,14 +16,14 @@ use Rattle.task_set.proofs.Truth.{by-test, clash, and-left, and-right, or-cases
 use Rattle.task_set.proofs.Bounded.{all-elim}
 use Rattle.task_set.proofs.Members.{has-or, has-past}
 use Rattle.task_set.proofs.Tables.{length-tabulate, getD-tabulate}
-use Rattle.plan.specs.Rules.{mostTypes, mostTasks}
+use Rattle.plan.specs.Rules.{mostTypes, mostTasks, lastInstant}
 use Rattle.plan.specs.Refusals.{verdict}
 use Rattle.runs.specs.Running.{isRunning, advance}
 use Rattle.runs.specs.Journal.{idle}
 use Rattle.runs.proofs.Closed.{notes-ext}
 use Rattle.live.specs.declared.State.{State}
 use Rattle.live.specs.States.{isStarted, notesOf}
-use Rattle.live.specs.Soundness.{lastInstant, checked, startedFits, finishedStarted, startCame, finishCame, unusedZero}
+use Rattle.live.specs.Soundness.{checked, startedFits, finishedStarted, startCame, finishCame, unusedZero}
 use Rattle.live.specs.Soundness.{unitsEnough, instantLow, taskSound, isSound}
 use Rattle.live.specs.Steps.{firstTasks, usersOf, stateFrom, stampAt, Tidy, Walkable}
 use Rattle.live.proofs.StateBack.{past-zero, started-notes}

@@ -15,18 +15,17 @@ use Rattle.task_set.proofs.Bounded.{all-intro}
 use Rattle.task_set.proofs.Tables.{getD-tabulate}
 use Rattle.plan.specs.declared.Plan.{Plan}
 use Rattle.plan.specs.declared.Constraint.{Constraint}
-use Rattle.plan.specs.Rules.{mostTypes, mostTasks, longestTime}
+use Rattle.plan.specs.Rules.{mostTypes, mostTasks, lastInstant}
 use Rattle.plan.specs.Refusals.{verdict}
 use Rattle.plan.proofs.Accepted.{Accepted, accepted}
-use Rattle.dispatch_theory.proofs.Sums.{sum-le}
 use Rattle.runs.specs.Running.{Notes, orZero, given, hasStarted, hasFinished, busy, worst, Allowed, timed, over, response, bound}
-use Rattle.runs.proofs.Positions.{position, worst-short, allowed-lasts, allowed-most}
+use Rattle.runs.proofs.Positions.{position, worst-short, sum-short, allowed-lasts, allowed-most}
 use Rattle.runs.proofs.Orders.{startsOf}
 use Rattle.runs.proofs.Closed.{once, timed-closed}
 use Rattle.runs.proofs.Theorems.{first-over, within-bound, bound-sum, units-enough as runs-enough}
 use Rattle.live.specs.declared.State.{State}
 use Rattle.live.specs.States.{isStarted, stateOf}
-use Rattle.live.specs.Soundness.{startIn, finishIn, lastInstant, checked, startedFits, finishedStarted, startCame}
+use Rattle.live.specs.Soundness.{startIn, finishIn, checked, startedFits, finishedStarted, startCame}
 use Rattle.live.specs.Soundness.{finishCame, unusedZero, timeLeft, unitsEnough, instantLow, taskSound, isSound}
 use Rattle.live.proofs.StateBack.{started-notes, finished-notes}
 use Rattle.live.proofs.Following.{Stands}
@@ -75,9 +74,7 @@ module _ (p : Plan) (c : Constraint) (ok : verdict p c .number ≡ 0) (d : ℕ �
   -- ---- the instant
 
   bound-low : bound p c ≤ lastInstant
-  bound-low =
-      let most = sum-le (p .tasks) (worst p c) longestTime (worst-short a) in
-      omega (arith, bound-sum p c ok, a .few-tasks)
+  bound-low = omega (arith, bound-sum p c ok, sum-short a (worst p c) (worst-short a))
 
   module _ (st : Stands p c n) where
     abbrev s : State

@@ -1,11 +1,11 @@
 -- When a run state is sound: the clauses of 12, one definition each (document 01, Tick). Assumes nothing.
 use mathlib.Core.Bool.{Bool, _&&_, _||_}
-use Prim.Native.Nat.{ℕ, _+_, _*_}
+use Prim.Native.Nat.{ℕ, _+_}
 use lib.Dec.{eqb, leb, ltb}
 use lib.ListN.{getD}
 use Rattle.task_set.specs.Bounded.{all, implies}
 use Rattle.task_set.specs.Sets.{width, has}
-use Rattle.plan.specs.Rules.{mostTypes, mostTasks, longestTime}
+use Rattle.plan.specs.Rules.{mostTypes, lastInstant}
 use Rattle.plan.specs.Refusals.{verdict}
 use Rattle.runs.specs.Running.{isRunning, busy, over, worst}
 use Rattle.live.specs.declared.State.{State}
@@ -17,10 +17,6 @@ startIn s t = getD (s .starts) t 0
 
 abbrev pub finishIn : State → ℕ → ℕ
 finishIn s t = getD (s .finishes) t 0
-
--- 4,194,240: every task one after the other, each with the longest time
-abbrev pub lastInstant : ℕ
-lastInstant = mostTasks * longestTime
 
 -- not "plan and constraint fail the check"
 unfoldable pub checked : State → Bool

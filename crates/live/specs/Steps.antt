@@ -10,7 +10,7 @@ use Rattle.task_set.specs.Bounded.{all, any, implies, tabulate}
 use Rattle.task_set.specs.Sets.{width, has, insert, lowest, setOf, subset, size, without}
 use Rattle.plan.specs.declared.Plan.{Plan}
 use Rattle.plan.specs.declared.Constraint.{Constraint}
-use Rattle.plan.specs.Rules.{mostTypes, mostTasks, timeOf, predecessorsOf}
+use Rattle.plan.specs.Rules.{mostTypes, mostTasks, lastInstant, timeOf, predecessorsOf}
 use Rattle.plan.specs.declared.Verdict.{Verdict}
 use Rattle.plan.specs.Refusals.{entryAt, refused, noRefusal, verdict}
 use Rattle.plan.specs.Buffers.{atStart}
@@ -22,7 +22,6 @@ use Rattle.live.specs.declared.sets.Marks.{Marks}
 use Rattle.live.specs.declared.verdicts.Judged.{Judged}
 use Rattle.live.specs.declared.walk.Walked.{Walked}
 use Rattle.live.specs.States.{isStarted, notesOf}
-use Rattle.live.specs.Soundness.{lastInstant}
 use Rattle.live.specs.Ticks.{moved, tickVerdict}
 use Rattle.live.specs.Lists.{stateAfter, saidAfter}
 

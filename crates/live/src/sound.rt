@@ -6,11 +6,9 @@ ghost use Rattle.task_set.specs.Sets.{has, width};
 ghost use Rattle.plan.specs.Rules.{mostTasks, mostTypes};
 ghost use Rattle.live.specs.Steps.{allTimesFit, enoughFor, soundBy, timesFit};
 use crate::sets::Marks;
+use plan::LAST_INSTANT;
 use plan::MOST_TASKS;
 use plan::MOST_TYPES;
-
-// The greatest instant of a sound state: every task one after the other, each with the longest time.
-const LAST_INSTANT: u32 = MOST_TASKS as u32 * plan::LONGEST_TIME;
 
 // The clauses about the start and the finish of a task.
 fn times_fit(begun: bool, done: bool, start: u32, finish: u32, instant: u32) -> bool

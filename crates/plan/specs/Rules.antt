@@ -28,6 +28,10 @@ longestTime = 65535
 abbrev pub latestDeadline : ℕ
 latestDeadline = 65535
 
+-- no run is longer: every task one after the other, each with the longest time
+abbrev pub lastInstant : ℕ
+lastInstant = mostTasks * longestTime
+
 abbrev pub between : ℕ → ℕ → ℕ → Bool
 between a x b = leb a x && leb x b
 

@@ -21,6 +21,9 @@ pub const LONGEST_TIME: u32 = 65535;
 
 pub const LATEST_DEADLINE: u32 = 65535;
 
+// No run is longer: every task one after the other, each with the longest time.
+pub const LAST_INSTANT: u32 = MOST_TASKS as u32 * LONGEST_TIME;
+
 // Times are kept task by task: pair_index alone knows where one lies. A deadline is 0 for a task without.
 #[repr(C)]
 pub struct Plan {

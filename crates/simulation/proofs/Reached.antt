@@ -19,14 +19,14 @@ use Rattle.task_set.proofs.Members.{has-none, has-or, has-without}
 use Rattle.task_set.proofs.Tables.{tabulate-cong}
 use Rattle.plan.specs.declared.Plan.{Plan}
 use Rattle.plan.specs.declared.Constraint.{Constraint}
-use Rattle.plan.specs.Rules.{mostTypes, mostUnits, mostTasks, longestTime, predecessorsOf}
+use Rattle.plan.specs.Rules.{mostTypes, mostUnits, mostTasks, longestTime, lastInstant, predecessorsOf}
 use Rattle.plan.proofs.Accepted.{Accepted}
 use Rattle.dispatch_theory.proofs.Greedy.{ends, after}
 use Rattle.dispatch_theory.proofs.Units.{Booked, booked-none, booked-more, start-is, open-now}
 use Rattle.dispatch_theory.specs.Sums.{greatest}
-use Rattle.dispatch_theory.proofs.Sums.{sum-le, greatest-lub, greatest-le}
+use Rattle.dispatch_theory.proofs.Sums.{greatest-lub, greatest-le}
 use Rattle.runs.specs.Running.{orZero, horizon, ended, response}
-use Rattle.runs.proofs.Positions.{taskAt, typeAt, position, position-entry}
+use Rattle.runs.proofs.Positions.{taskAt, typeAt, position, position-entry, sum-short}
 use Rattle.runs.proofs.Orders.{orderOf, Lasting, durations, startsOf, startOf, finishOf, greedy}
 use Rattle.runs.proofs.Closed.{timed-closed}
 use Rattle.runs.proofs.Response.{ends-by, ended-start, ended-finish, response-ends}
@@ -198,10 +198,10 @@ module _ {p : Plan} {c : Constraint} (a : Accepted p c) (d : ℕ → ℕ) (posit
 
   -- ---- the end
 
-  -- no finish is later than the longest times of the most tasks one after the other
-  pub finish-short : ((t : ℕ) → t < p .tasks → d t ≤ longestTime) → (k : ℕ) → k < p .tasks → S k + D k ≤ mostTasks * longestTime
+  -- no finish is later than the last instant
+  pub finish-short : ((t : ℕ) → t < p .tasks → d t ≤ longestTime) → (k : ℕ) → k < p .tasks → S k + D k ≤ lastInstant
   unfolding horizon
-  finish-short short k l = omega (arith, ends-by a d positive k l, sum-le (p .tasks) d longestTime short, a .few-tasks)
+  finish-short short k l = omega (arith, ends-by a d positive k l, sum-short a d short)
 
   -- what the notes of the run have when it is over; a task that is not of the plan has none
   ended-starts : (t : ℕ) → cond (ltb t (p .tasks)) (startOf p c d t) 0 ≡ orZero (ended p c d .start t)

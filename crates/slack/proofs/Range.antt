@@ -2,7 +2,7 @@
 use mathlib.Core.Path.{_≡_, refl}
 use mathlib.Core.Bool.{true}
 use mathlib.Core.List.{List}
-use Prim.Native.Nat.{ℕ, _*_, _≤_, _<_, zero-le}
+use Prim.Native.Nat.{ℕ, _≤_, _<_, zero-le}
 use native.Mathlib.Nat.{lt-of-lt-of-le}
 use native.Mathlib.Omega.{arith}
 use borrow.Author.Tests.{eqb-true, ltb-true, ltb-false}
@@ -16,11 +16,10 @@ use Rattle.task_set.proofs.Search.{first-is}
 use Rattle.task_set.proofs.Tables.{length-tabulate, getD-tabulate}
 use Rattle.plan.specs.declared.Plan.{Plan}
 use Rattle.plan.specs.declared.Constraint.{Constraint}
-use Rattle.plan.specs.Rules.{mostTasks, longestTime, latestDeadline, deadlineOf}
+use Rattle.plan.specs.Rules.{mostTasks, latestDeadline, lastInstant, deadlineOf}
 use Rattle.plan.proofs.Accepted.{Accepted}
-use Rattle.dispatch_theory.proofs.Sums.{sum-le}
 use Rattle.runs.specs.Running.{worst, orZero, horizon, ended}
-use Rattle.runs.proofs.Positions.{worst-short, worst-allowed, allowed-lasts}
+use Rattle.runs.proofs.Positions.{worst-short, sum-short, worst-allowed, allowed-lasts}
 use Rattle.runs.proofs.Orders.{finishOf}
 use Rattle.runs.proofs.Response.{ended-finish, finish-by}
 use Rattle.simulation.specs.declared.Simulation.{Simulation}
@@ -54,16 +53,16 @@ module _ {p : Plan} {c : Constraint} (a : Accepted p c) where
         ended-finish a d (allowed-lasts a d (worst-allowed a)) t l,
       )
 
-  -- it takes at least one tick, and no more than all tasks take together
+  -- it comes at instant 1 at the earliest, and not after the last instant
   pub finish-between : (t : ℕ) → t < p .tasks → let f = getD (ran p c (worst p c) .finishes) t 0 in
-      (1 ≤ f) × (f ≤ mostTasks * longestTime)
+      (1 ≤ f) × (f ≤ lastInstant)
   unfolding horizon
   finish-between t l =
       let d = worst p c in
       let w = allowed-lasts a d (worst-allowed a) in
       rw (worst-finish t l) (
         omega (arith, w t l),
-        omega (arith, finish-by a d w t l, sum-le (p .tasks) d longestTime (worst-short a), a .few-tasks),
+        omega (arith, finish-by a d w t l, sum-short a d (worst-short a)),
       )
 
   slack-between : (t : ℕ) → Between (slackOf (p .deadlines) (ran p c (worst p c) .finishes) t)
@@ -82,12 +81,12 @@ module _ {p : Plan} {c : Constraint} (a : Accepted p c) where
           let r = a .due t l in
           let q = finish-between t (r .0) in
           rw e (
-            difference-mono 1 (mostTasks * longestTime) d f (omega (arith, l, q)),
+            difference-mono 1 lastInstant d f (omega (arith, l, q)),
             difference-mono d f latestDeadline 1 (omega (arith, r, q)),
           )
 
 -- its size, whatever its sign
-pub between-size : (x : ℤ) → Between x → natAbs x ≤ mostTasks * longestTime
+pub between-size : (x : ℤ) → Between x → natAbs x ≤ lastInstant
 between-size (pos n) b = omega (arith, leb→le n _ (b .1 .le))
 between-size (negsuc n) b = omega (arith, leb→le n _ (b .0 .le))
 

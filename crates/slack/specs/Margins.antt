@@ -1,7 +1,7 @@
 -- How much is to spare (document 02, 2): a task's slack, which the paper calls its margin. Assumes nothing.
 use mathlib.Core.Bool.{Bool, true, false, cond, _&&_}
 use mathlib.Core.List.{List}
-use Prim.Native.Nat.{ℕ, _*_, _<_}
+use Prim.Native.Nat.{ℕ, _<_}
 use lib.Dec.{eqb, ltb}
 use lib.IntN.{ℤ, pos, natAbs, _-ℤ_}
 use lib.ListN.{getD, replicate}
@@ -9,7 +9,7 @@ use lib.Signed.{ltZ, leZ, _≤ℤ_}
 use Rattle.task_set.specs.Bounded.{all, any, first, implies, tabulate}
 use Rattle.plan.specs.declared.Plan.{Plan}
 use Rattle.plan.specs.declared.Constraint.{Constraint}
-use Rattle.plan.specs.Rules.{mostTasks, longestTime, latestDeadline, deadlineOf}
+use Rattle.plan.specs.Rules.{mostTasks, latestDeadline, lastInstant, deadlineOf}
 use Rattle.simulation.specs.declared.Simulation.{Simulation}
 use Rattle.simulation.specs.Simulated.{worstCase}
 use Rattle.slack.specs.declared.Slacks.{Slacks}
@@ -73,7 +73,7 @@ partsOf x = record { negative = ltZ x (pos 0); size = natAbs x }
 
 -- the earliest deadline and the latest finish
 abbrev pub leastSlack : ℤ
-leastSlack = pos 1 -ℤ pos (mostTasks * longestTime)
+leastSlack = pos 1 -ℤ pos lastInstant
 
 -- the latest deadline and the earliest finish
 abbrev pub greatestSlack : ℤ

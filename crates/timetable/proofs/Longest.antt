@@ -11,7 +11,7 @@ use lib.ListN.{length, length-append}
 use Rattle.task_set.proofs.Tables.{getD-tabulate}
 use Rattle.plan.specs.declared.Plan.{Plan}
 use Rattle.plan.specs.declared.Constraint.{Constraint}
-use Rattle.plan.specs.Rules.{mostTasks, longestTime}
+use Rattle.plan.specs.Rules.{mostTasks, longestTime, lastInstant}
 use Rattle.plan.specs.Refusals.{entryAt}
 use Rattle.plan.proofs.Refusing.{cond-passed, unless-passed}
 use Rattle.plan.proofs.Accepted.{Accepted}
@@ -19,7 +19,8 @@ use Rattle.dispatch_theory.specs.Sums.{sum}
 use Rattle.dispatch_theory.proofs.Sums.{sum-mono, sum-le}
 use Rattle.dispatch_theory.proofs.Greedy.{bound}
 use Rattle.runs.specs.Running.{worst, Allowed, orZero, horizon, ended, response}
-use Rattle.runs.proofs.Positions.{taskAt, typeAt, position-entry, worst-short, by-position, allowed-lasts, allowed-most, worst-allowed}
+use Rattle.runs.proofs.Positions.{taskAt, typeAt, position-entry, worst-short, sum-short, by-position}
+use Rattle.runs.proofs.Positions.{allowed-lasts, allowed-most, worst-allowed}
 use Rattle.runs.proofs.Orders.{durations, startsOf, lawful, greedy}
 use Rattle.runs.proofs.Response.{ended-start, ended-finish, response-sum}
 use Rattle.simulation.specs.Simulated.{timeIn, outside, timesVerdict, ran, simulated, worstCase}
@@ -42,7 +43,7 @@ abbrev beside : ℕ → ℕ
 beside i = digits (i * longestTime) + digits (suc i * longestTime) + 5
 
 -- at 64 positions
-whole : sum mostTasks digits + sum mostTasks beside + (digits (mostTasks * longestTime) + 3) ≡ longestTimetable
+whole : sum mostTasks digits + sum mostTasks beside + (digits lastInstant + 3) ≡ longestTimetable
 unfolding sum decimal decimalUpto
 whole = refl
 
@@ -95,8 +96,8 @@ module _ {p : Plan} {c : Constraint} (a : Accepted p c) (d : ℕ → ℕ) (w : A
         by-position a digits,
         sum-mono mostTasks digits (p .tasks) (a .few-tasks),
         sum-mono mostTasks beside (p .tasks) (a .few-tasks),
-        decimal-mono (response p c d) (mostTasks * longestTime)
-            (omega (arith, response-sum a d (allowed-lasts a d w), sum-le (p .tasks) d longestTime short, a .few-tasks)),
+        decimal-mono (response p c d) lastInstant
+            (omega (arith, response-sum a d (allowed-lasts a d w), sum-short a d short)),
       ))
 
 -- ---- the calls that the timetable takes

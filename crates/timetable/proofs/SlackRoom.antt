@@ -8,7 +8,7 @@ use lib.ListN.{length, length-append}
 use Rattle.task_set.proofs.Truth.{by-test}
 use Rattle.plan.specs.declared.Plan.{Plan}
 use Rattle.plan.specs.declared.Constraint.{Constraint}
-use Rattle.plan.specs.Rules.{mostTasks, longestTime, latestDeadline, deadlineOf}
+use Rattle.plan.specs.Rules.{mostTasks, latestDeadline, lastInstant, deadlineOf}
 use Rattle.plan.specs.Refusals.{entryAt}
 use Rattle.dispatch_theory.proofs.Sums.{sum-le}
 use Rattle.simulation.specs.declared.Simulation.{Simulation}
@@ -27,25 +27,21 @@ use Rattle.timetable.proofs.SlackLines.{slack-length}
 abbrev digits : ℕ → ℕ
 digits x = length (decimal x)
 
--- the latest finish, which no slack's size is above
-abbrev latest : ℕ
-latest = mostTasks * longestTime
-
 -- a line, and the last: numbers, the sign, tabs and the newline
 abbrev lineMost : ℕ
-lineMost = digits mostTasks + digits latestDeadline + digits latest + (digits latest + 1) + 4
+lineMost = digits mostTasks + digits latestDeadline + digits lastInstant + (digits lastInstant + 1) + 4
 
 abbrev lastMost : ℕ
-lastMost = (digits latest + 1) + digits mostTasks + 4
+lastMost = (digits lastInstant + 1) + digits mostTasks + 4
 
 whole : mostTasks * lineMost + lastMost ≡ slackRoom
 unfolding decimal decimalUpto
 whole = refl
 
-sign-most : (s : Parts) (mark : ℕ) → s .size ≤ latest → length (signedField s mark) ≤ digits latest + 2
+sign-most : (s : Parts) (mark : ℕ) → s .size ≤ lastInstant → length (signedField s mark) ≤ digits lastInstant + 2
 sign-most s mark l =
-    by-test (s .negative) (λ e. rw e (simp length-append (omega (arith, decimal-mono (s .size) latest l))))
-    (λ e. rw e (simp length-append (omega (arith, decimal-mono (s .size) latest l))))
+    by-test (s .negative) (λ e. rw e (simp length-append (omega (arith, decimal-mono (s .size) lastInstant l))))
+    (λ e. rw e (simp length-append (omega (arith, decimal-mono (s .size) lastInstant l))))
 
 module _ (p : Plan) (c : Constraint) (z : worstCase p c .number ≡ 0) where
   abbrev s : Simulation
@@ -66,14 +62,14 @@ module _ (p : Plan) (c : Constraint) (z : worstCase p c .number ≡ 0) where
       due e =
           let a = worst-taken p c z in
           let d = a .due t (ltb-true 0 (deadlineOf (p .deadlines) t) e) in
-          let f : entryAt (s .finishes) t ≤ latest = rw (worst-runs p c z) (finish-between a t (d .0) .1) in
+          let f : entryAt (s .finishes) t ≤ lastInstant = rw (worst-runs p c z) (finish-between a t (d .0) .1) in
           let x = slackAt (r .slacks) t in
           rw e (omega (
             arith,
             slack-length t (deadlineOf (p .deadlines) t) (entryAt (s .finishes) t) (partsOf x),
             decimal-mono t mostTasks (omega arith),
             decimal-mono (deadlineOf (p .deadlines) t) latestDeadline (d .1),
-            decimal-mono (entryAt (s .finishes) t) latest f,
+            decimal-mono (entryAt (s .finishes) t) lastInstant f,
             sign-most (partsOf x) 10 (between-size x (ranged .each .low t l, ranged .each .high t l)),
           ))
 
