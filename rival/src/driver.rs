@@ -235,11 +235,16 @@ impl Driver {
 
     fn tick(&mut self, report: u64) {
         let state = std::mem::replace(&mut self.state, State::zero());
+        let instant = state.instant;
         let (state, answer) = state.tick(report);
         self.state = state;
+        self.reached.note_instant("T", instant, &self.state, &answer);
         match answer {
             Ok(_) => self.reached.note_tick("T", &self.state, self.state.instant),
             Err(Refusal { number: 12, .. }) => self.reached.note_unsound("T", &self.state),
+            Err(Refusal { number: 16, place }) => {
+                self.reached.note_overrun("T", &self.state, place);
+            }
             Err(_) => {}
         }
         self.say("T", "tick", answer.err().as_ref(), &[answer.unwrap_or(0)]);
@@ -271,6 +276,7 @@ impl Driver {
         answer: Result<u64, Refusal>,
         buffer: &[u8],
     ) {
+        self.reached.note_timetable(command, &answer, buffer.len());
         self.say(command, "timetable", answer.err().as_ref(), &[answer.unwrap_or(0)]);
         self.out.extend_from_slice(buffer);
         self.out.push(b'\n');

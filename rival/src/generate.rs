@@ -1,6 +1,7 @@
 //! Random driver sessions. A driver of our own is led along, so that most
 //! commands are legal and the others are wrong on purpose.
 use crate::driver::{Driver, LONGEST_LIST, MOST_ROOM, MOST_TIMES, TOO_LONG};
+use crate::edges;
 use crate::inputs::{self, EDGES};
 use crate::limits::*;
 use crate::plan::*;
@@ -53,32 +54,44 @@ impl Session {
         if self.random.once_in(2) || accepted {
             self.give("S");
         }
+        self.longest_run();
         // In every third session about half of the commands are timetables of given times and replays.
         let kinds = if self.random.once_in(3) { 32 } else { 20 };
         for _ in 0..if accepted { self.random.from(6, 30) } else { 4 } {
-            match self.random.below(kinds) {
-                0 => self.give("B"),
-                1 | 2 => self.simulate(),
-                3 => self.worst_timetable(),
-                4 if self.random.once_in(5) => self.alter_pair(),
-                4 => self.alter_plan(),
-                5 | 6 => self.alter_state(),
-                7 => self.give("Q"),
-                8 => self.odd_line(),
-                9 => self.late_instants(),
-                10 => self.give("S"),
-                11..=13 => self.ticks(),
-                14 => self.alter_order(),
-                15 | 20..=25 => self.timetable(),
-                17 => self.give("D"),
-                18 | 19 => self.alter_deadline(),
-                _ => self.replay(),
-            }
+            let kind = self.random.below(kinds);
+            self.write_some(kind);
         }
         if accepted && self.random.once_in(2) {
             self.to_the_end();
+            if self.random.once_in(3) {
+                self.late_instants();
+            }
         }
         self.give("Q");
+    }
+
+    /// A command or a few, by their kind.
+    fn write_some(&mut self, kind: u64) {
+        match kind {
+            0 => self.give("B"),
+            1 | 2 => self.simulate(),
+            3 => self.worst_timetable(),
+            4 if self.random.once_in(5) => self.alter_pair(),
+            4 => self.alter_plan(),
+            5 | 6 => self.alter_state(),
+            7 => self.give("Q"),
+            8 => self.odd_line(),
+            9 if self.random.once_in(3) => self.late_instants(),
+            9 => {}
+            10 => self.give("S"),
+            11..=13 => self.ticks(),
+            14 => self.alter_order(),
+            15 | 20..=25 => self.timetable(),
+            17 => self.give("D"),
+            18 if self.random.once_in(3) => self.alter_worst(),
+            18 | 19 => self.alter_deadline(),
+            _ => self.replay(),
+        }
     }
 
     /// A command with a list of numbers after its other fields.
@@ -106,6 +119,27 @@ impl Session {
         let short: Vec<u32> = times.iter().map(|&time| time as u32).collect();
         let room = self.room(&short);
         self.give_list(&format!("Y\t{room}"), &times);
+    }
+
+    /// For a plan whose run may end at the last instant: its timetable, which no other is longer
+    /// than, into as many bytes or one too few; or a time one above the longest.
+    fn longest_run(&mut self) {
+        let Driver { plan, constraint, .. } = &self.driver;
+        if bound(plan, constraint).map_or(0, |run| run.response) != LAST_INSTANT {
+            return;
+        }
+        let worst = vec![u64::from(LONGEST_TIME); TASKS];
+        let mut above = worst.clone();
+        above[self.random.below(TASKS as u64) as usize] += 1;
+        for _ in 0..3 {
+            let room = LONGEST_TIMETABLE as u64 - self.random.below(2);
+            match self.random.below(6) {
+                0 | 1 => self.give(&format!("W\t{room}")),
+                2 | 3 => self.give_list(&format!("Y\t{room}"), &worst),
+                4 => self.give_list("M", &above),
+                _ => self.give_list(&format!("Y\t{room}"), &above),
+            }
+        }
     }
 
     fn replay(&mut self) {
@@ -239,13 +273,47 @@ impl Session {
         self.give(&format!("{letter}\t4\t{at}\t{worst}"));
     }
 
-    /// Puts a deadline or takes one away; for a while, one out of range or of an absent task.
-    fn alter_deadline(&mut self) {
+    /// Whether to alter the plan or a state that takes a tick, and what to ask then.
+    fn plan_or_state(&mut self) -> (char, &'static str) {
         let commands = [('P', "D"), ('P', "D"), ('P', "K"), ('P', "S"), ('P', "any"), ('R', "T")];
         let (letter, then) = self.random.pick(&commands);
         if letter == 'R' && self.last_in_time().is_none() {
             self.give("S");
         }
+        (letter, then)
+    }
+
+    /// Asks for what was chosen with the plan or state.
+    fn ask_for(&mut self, command: &str) {
+        match command {
+            "T" => self.legal_tick(),
+            "any" => self.ask(),
+            _ => self.give(command),
+        }
+    }
+
+    /// Puts an edge as the worst time of a task's chosen type, mostly for a while.
+    fn alter_worst(&mut self) {
+        let Driver { plan, constraint, .. } = &self.driver;
+        if crate::check::check(plan, constraint).is_err() {
+            return;
+        }
+        let p = self.random.below(plan.tasks) as usize;
+        let at = pair(constraint.task[p] as usize, constraint.kind[p] as usize);
+        let (letter, then) = self.plan_or_state();
+        let (best, worst) = times_of(&self.driver, letter, at);
+        let (beyond, edge) = (LONGEST_TIME + 1, self.random.pick(&edges::TIMES));
+        let value = self.random.pick(&[edge.max(best), beyond]);
+        self.give(&format!("{letter}\t4\t{at}\t{value}"));
+        self.ask_for(then);
+        if value == beyond || !self.random.once_in(4) {
+            self.give(&format!("{letter}\t4\t{at}\t{worst}"));
+        }
+    }
+
+    /// Puts a deadline or takes one away; for a while, one out of range or of an absent task.
+    fn alter_deadline(&mut self) {
+        let (letter, then) = self.plan_or_state();
         let ((tasks, _), last) = (self.sizes(), TASKS as u64 - 1);
         let (present, absent) = (self.random.below(tasks), self.random.from(tasks.min(last), last));
         let task = self.random.pick(&[present, present, absent]);
@@ -253,11 +321,7 @@ impl Session {
         let beyond = self.random.pick(&[u64::from(LATEST_DEADLINE) + 1, u32::MAX.into()]);
         let value = self.random.pick(&[other, other, other, 0, beyond]);
         self.give(&format!("{letter}\t14\t{task}\t{value}"));
-        match then {
-            "T" => self.legal_tick(),
-            "any" => self.ask(),
-            _ => self.give(then),
-        }
+        self.ask_for(then);
         if task >= tasks || value == beyond || self.random.once_in(4) {
             self.give(&format!("{letter}\t14\t{task}\t{old}"));
         }
@@ -325,9 +389,15 @@ impl Session {
         }
     }
 
+    /// Ticks until all is finished: every task at its worst time, or some of them sooner.
     fn to_the_end(&mut self) {
+        let worst = self.random.once_in(3);
         for _ in 0..150 {
             let Some(last) = self.last_in_time() else { break };
+            if worst {
+                self.due_tick(last);
+                continue;
+            }
             if last > self.driver.state.instant + 3 {
                 self.jump();
             }
@@ -337,12 +407,22 @@ impl Session {
         self.give(&format!("T\t{report}"));
     }
 
-    /// Moves the run to the last instants that a state may have.
+    /// Moves the instant on to the last in which nothing happens, and reports what is due then.
+    fn due_tick(&mut self, last: u32) {
+        if last > self.driver.state.instant {
+            self.give(&format!("R\t9\t0\t{last}"));
+        }
+        let report = inputs::due_report(&self.driver.state);
+        self.give(&format!("T\t{report}"));
+    }
+
+    /// Moves the run to about one of the last instants that a state may have, or to where it would
+    /// end with times of 16 bits.
     fn late_instants(&mut self) {
-        if !self.driver.state.sound() || !self.random.once_in(3) {
+        if !self.driver.state.sound() {
             return;
         }
-        let instant = LAST_INSTANT - 2 + self.random.below(4) as u32;
+        let instant = self.random.pick(&edges::INSTANTS) - self.random.below(2) as u32;
         let delta = instant.saturating_sub(self.driver.state.instant);
         self.give(&format!("R\t9\t0\t{instant}"));
         for t in members(self.driver.state.running()) {

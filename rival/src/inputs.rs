@@ -1,6 +1,7 @@
 //! Random times, deadlines and reports for a plan: most are legal, the others are wrong on purpose.
 use crate::check::check;
 use crate::driver::LONGEST_LIST;
+use crate::edges::{self, SIXTEEN_BITS};
 use crate::limits::*;
 use crate::plan::*;
 use crate::random::Random;
@@ -8,7 +9,7 @@ use crate::simulate::{simulate, worst_times};
 use crate::state::{start, State};
 
 /// Numbers on the edges of what fits or is allowed.
-pub const EDGES: [u64; 16] = [
+pub const EDGES: [u64; 19] = [
     0,
     1,
     2,
@@ -20,6 +21,9 @@ pub const EDGES: [u64; 16] = [
     TASKS as u64 - 1,
     TASKS as u64,
     TASKS as u64 + 1,
+    SIXTEEN_BITS as u64,
+    SIXTEEN_BITS as u64 + 1,
+    LONGEST_TIME as u64 - 1,
     LONGEST_TIME as u64,
     LONGEST_TIME as u64 + 1,
     u32::MAX as u64,
@@ -27,8 +31,8 @@ pub const EDGES: [u64; 16] = [
     u64::MAX,
 ];
 
-/// All worst, all best, all 1, a mixture of these, or anything from 1 to worst. Only for accepted
-/// plans and constraints.
+/// All worst, all best, all 1, a mixture of these, or anything from 1 to worst; if that is long,
+/// perhaps an edge. Only for accepted plans and constraints.
 pub fn allowed_times(random: &mut Random, plan: &Plan, constraint: &Constraint) -> Vec<u32> {
     let chosen = constraint.chosen();
     let which = random.below(6);
@@ -39,6 +43,7 @@ pub fn allowed_times(random: &mut Random, plan: &Plan, constraint: &Constraint) 
             1 => best,
             2 => 1,
             3 => random.pick(&[1, best, worst]),
+            4 if worst >= SIXTEEN_BITS => random.pick(&edges::TIMES).min(worst),
             _ => random.from(1, worst.into()) as u32,
         }
     };
@@ -75,8 +80,8 @@ pub fn deadlines(random: &mut Random, finishes: &[u32]) -> Vec<u64> {
     finishes.iter().map(|&finish| one_deadline(random, which, finish.into())).collect()
 }
 
-/// A deadline for this worst finish: when it is, a little later, about then, early, at one of the
-/// ends, or anything.
+/// A deadline for this worst finish: when it is, a little later, about then, early, at an edge, or
+/// anything.
 pub fn deadline(random: &mut Random, finish: u64) -> u64 {
     let which = random.below(7);
     one_deadline(random, which, finish)
@@ -90,7 +95,7 @@ fn one_deadline(random: &mut Random, which: u64, finish: u64) -> u64 {
         2 => finish + random.from(1, 9),
         3 => (finish + 2).saturating_sub(random.below(5)),
         4 => random.from(first, finish.max(first)),
-        5 => random.pick(&[first, last]),
+        5 => random.pick(&edges::DEADLINES).into(),
         6 => random.from(first, last),
         _ => return deadline(random, finish),
     };
@@ -102,15 +107,16 @@ pub fn legal_report(random: &mut Random, state: &State) -> u64 {
     if !state.sound() {
         return 0;
     }
+    let more = members(state.running()).filter(|_| random.once_in(3));
+    more.fold(due_report(state), |set, t| set | 1 << t)
+}
+
+/// The running tasks that at the new instant have run their worst. Only for sound states.
+pub fn due_report(state: &State) -> u64 {
     let chosen = state.constraint.chosen();
-    let mut report = 0;
-    for t in members(state.running()) {
-        let ran = state.instant + 1 - state.starts[t];
-        if ran >= state.plan.worst[pair(t, chosen[t])] || random.once_in(3) {
-            report |= 1 << t;
-        }
-    }
-    report
+    let ran = |t: usize| state.instant + 1 - state.starts[t];
+    let due = |&t: &usize| ran(t) >= state.plan.worst[pair(t, chosen[t])];
+    members(state.running()).filter(due).fold(0, |set, t| set | 1 << t)
 }
 
 /// A report that is legal, or has a stranger, lacks a task, has all that run, has the tasks that

@@ -1,12 +1,15 @@
 //! A rival implementation of bench plans, written from documents 01 and 02 alone.
+pub mod cases;
 pub mod check;
 pub mod compare;
 pub mod driver;
+pub mod edges;
 pub mod fast;
 pub mod generate;
 pub mod inputs;
 pub mod journal;
 pub mod limits;
+pub mod lines;
 pub mod margins;
 pub mod plan;
 pub mod random;

@@ -1,11 +1,16 @@
 //! How often each command answered each refusal number, 0 for what was accepted, and how often
 //! that was one of the cases which are counted besides.
+use crate::cases::*;
 use crate::check::keeps_the_rules;
+use crate::edges;
 use crate::limits::*;
+use crate::lines::{cases_of_line, FIELDS, LINES};
 use crate::margins::{margins, with_deadline, Margins};
 use crate::plan::*;
 use crate::reader::read;
+use crate::simulate::worst_times;
 use crate::state::State;
+use crate::timetable;
 use std::collections::BTreeMap;
 
 /// The greatest refusal number.
@@ -20,82 +25,40 @@ pub const TEXT: &str = "text";
 /// The ticks of a replay, which have no letter of their own.
 pub const TICKS_OF_Z: &str = "Z's ticks";
 
-/// A number, and what is so in some of the answers with it.
-pub type Case = (u64, &'static str);
-
-/// A report names a task before its best time.
-pub const EARLY_REPORT: Case = (0, "before best");
-pub const TIME_BELOW_BEST: Case = (0, "below best");
-pub const TIME_OF_0: Case = (18, "for 0");
-pub const TIME_ABOVE_WORST: Case = (18, "above worst");
-
-const TIMES: [Case; 3] = [TIME_BELOW_BEST, TIME_OF_0, TIME_ABOVE_WORST];
-
-/// The refused line has the letter D.
-pub const D_LINE_FORM: Case = (2, "at a D line");
-pub const D_LINE_TASK: Case = (3, "for the task of a D line");
-pub const D_LINE_OF_0: Case = (3, "for instant 0 of a D line");
-pub const D_LINE_ABOVE: Case = (3, "for an instant above of a D line");
-pub const D_LINE_KIND: Case = (5, "at a D line");
-pub const D_LINE_UNKNOWN: Case = (6, "at a D line");
-pub const D_LINE_AGAIN: Case = (7, "at a D line");
-/// The refused line has another letter and comes right after a D line.
-pub const AFTER_D_LINE: Case = (5, "after a D line");
-
-/// Of a text with D lines.
-pub const LINES: [Case; 8] = [
-    D_LINE_FORM, D_LINE_TASK, D_LINE_OF_0, D_LINE_ABOVE, D_LINE_KIND, D_LINE_UNKNOWN, D_LINE_AGAIN,
-    AFTER_D_LINE,
-];
-
-/// Nothing but the deadlines is wrong, and these in one way only.
-const ABOVE: &str = "for a deadline above";
-const ABSENT: &str = "for a deadline of an absent task";
-pub const DEADLINE_ABOVE: Case = (8, ABOVE);
-pub const DEADLINE_ABSENT: Case = (8, ABSENT);
-pub const UNSOUND_ABOVE: Case = (12, ABOVE);
-pub const UNSOUND_ABSENT: Case = (12, ABSENT);
-
-/// Of a plan with wrong deadlines.
-pub const DEADLINES: [Case; 2] = [DEADLINE_ABOVE, DEADLINE_ABSENT];
-
-pub const NO_DEADLINES: Case = (0, "no deadlines");
-pub const LEAST_BELOW_ZERO: Case = (0, "least below zero");
-pub const LEAST_ZERO: Case = (0, "least zero");
-pub const LEAST_ABOVE_ZERO: Case = (0, "least above zero");
-pub const LEAST_OF_SEVERAL: Case = (0, "least of several");
-/// The 0 of a task without deadline is less than all margins.
-pub const LESS_WITHOUT: Case = (0, "less without deadline");
-pub const LEAST_OF_ALL: Case = (0, "least of all plans");
-/// Every task with a deadline has it.
-pub const GREATEST_OF_ALL: Case = (0, "greatest of all plans");
-
-/// Of accepted margins.
-pub const MARGINS: [Case; 8] = [
-    NO_DEADLINES, LEAST_BELOW_ZERO, LEAST_ZERO, LEAST_ABOVE_ZERO, LEAST_OF_SEVERAL, LESS_WITHOUT,
-    LEAST_OF_ALL, GREATEST_OF_ALL,
-];
-
 /// The numbers and cases that one command must have answered.
 type Asked = (&'static str, &'static [u64], &'static [Case]);
 
-/// Of sessions, each by itself.
-const ASKED: [Asked; 10] = [
+/// Of the texts of sessions, and of those that a program is given.
+const ASKED_OF_LINES: [Asked; 3] = [
     (TEXT, &[], &LINES),
+    (TEXT, &[], FIELDS.as_flattened()),
+    (TEXT, &[], READ_EDGES.as_flattened()),
+];
+
+/// Of sessions, each by itself.
+const ASKED: [Asked; 15] = [
     ("D", &[0, 8, 9, 10, 11], &MARGINS),
-    ("D", &[], &DEADLINES),
-    ("K", &[], &DEADLINES),
+    ("D", &[], &FAULTS),
+    ("K", &[], &FAULTS),
     ("M", &[], &TIMES),
-    ("S", &[], &DEADLINES),
-    ("T", &[], &[EARLY_REPORT, UNSOUND_ABOVE, UNSOUND_ABSENT]),
+    ("M", &[], &TIME_EDGES),
+    ("S", &[], &FAULTS),
+    ("T", &[], &[EARLY_REPORT, LONGEST_REPORT, LONGEST_OVERRUN]),
+    ("T", &[], &[UNSOUND_ABOVE, UNSOUND_ABSENT, UNSOUND_LONG]),
+    ("T", &[], INSTANTS.as_flattened()),
+    ("W", &[], &TIMETABLES),
     ("Y", &[0, 8, 9, 10, 11, 17, 18, 19], &TIMES),
+    ("Y", &[], &TIME_EDGES),
+    ("Y", &[], &TIMETABLES),
     ("Z", &[0, 8, 9, 10, 11], &[]),
     (TICKS_OF_Z, &[0, 13, 14, 16], &[EARLY_REPORT]),
 ];
 
 /// Of texts that a program is given.
-const ASKED_OF_TEXTS: [Asked; 2] =
-    [(TEXT, &[0, 1, 2, 3, 4, 5, 6, 7, 8, 9, 10, 11], &LINES), (TEXT, &[], &MARGINS)];
+const ASKED_OF_TEXTS: [Asked; 2] = [
+    (TEXT, &[0, 1, 2, 3, 4, 5, 6, 7, 8, 9, 10, 11], &MARGINS),
+    (TEXT, &[], &[LONGEST_WRITTEN]),
+];
 
 /// By the letter of the command, then by case. A case without words is all answers with its number.
 #[derive(Default)]
@@ -106,36 +69,88 @@ impl Reached {
         self.add_times(command, (number, ""), 1);
     }
 
-    /// Notes the case of a text that was read so.
-    pub fn note_text<T>(&mut self, text: &[u8], answer: &Result<T, Refusal>) {
-        if let Err(Refusal { number: number @ 2.., place }) = *answer {
-            let case = case_of_line(text, number, place as usize);
-            self.add_cases(TEXT, case);
+    /// Notes the cases of a text that was read so.
+    pub fn note_text(&mut self, text: &[u8], answer: &Result<(Plan, Constraint), Refusal>) {
+        match answer {
+            Ok((plan, _)) => self.note_read(plan),
+            Err(Refusal { number: 1, .. }) => {}
+            Err(Refusal { number, place }) => {
+                self.add_cases(TEXT, cases_of_line(text, *number, *place as usize));
+            }
         }
     }
 
-    /// Notes a text that a program is given: its refusal, or that of its plan, or its margins.
+    /// Notes the cases of the times and deadlines of a plan that was read.
+    fn note_read(&mut self, plan: &Plan) {
+        let [best, worst, deadline] = &READ_EDGES;
+        self.add_cases(TEXT, cases_among(&plan.best, &edges::TIMES, best));
+        self.add_cases(TEXT, cases_among(&plan.worst, &edges::TIMES, worst));
+        self.add_cases(TEXT, cases_among(&plan.deadlines, &edges::DEADLINES, deadline));
+    }
+
+    /// Notes a text that a program is given: its refusal, or that of its plan, or its margins and
+    /// its timetable.
     pub fn note_program(&mut self, text: &[u8]) {
         let reading = read(text);
         self.note_text(text, &reading);
-        let answer = reading.and_then(|(plan, constraint)| Ok((margins(&plan, &constraint)?, plan)));
+        let answer = reading.and_then(|(plan, constraint)| {
+            let margins = margins(&plan, &constraint)?;
+            let table = timetable::text(&plan, &constraint, &worst_times(&plan, &constraint))?;
+            Ok((plan, margins, table.len()))
+        });
         self.note(TEXT, answer.as_ref().err().map_or(0, |refusal| refusal.number));
-        if let Ok((margins, plan)) = &answer {
+        if let Ok((plan, margins, bytes)) = &answer {
             self.note_margins(TEXT, plan, margins);
+            self.note_timetable(TEXT, &Ok(*bytes as u64), *bytes);
         }
+    }
+
+    /// Notes the case of a timetable that is answered so, into this many bytes.
+    pub fn note_timetable(
+        &mut self,
+        command: &'static str,
+        answer: &Result<u64, Refusal>,
+        room: usize,
+    ) {
+        const LONGEST: u64 = LONGEST_TIMETABLE as u64;
+        let case = match answer {
+            Ok(LONGEST) => LONGEST_WRITTEN,
+            Err(Refusal { number: 19, place: LONGEST }) if room + 1 == LONGEST_TIMETABLE => {
+                LONGEST_REFUSED
+            }
+            _ => return,
+        };
+        self.add_times(command, case, 1);
     }
 
     /// Notes the case of a plan that is refused with 8.
     pub fn note_plan(&mut self, command: &'static str, plan: &Plan) {
-        let words = fault_of_deadlines(plan).filter(|_| keeps_the_rules(&without_deadlines(plan)));
+        let words = only_fault(plan, keeps_the_rules);
         self.add_cases(command, words.map(|words| (8, words)));
     }
 
     /// Notes the case of a state that is refused with 12.
     pub fn note_unsound(&mut self, command: &'static str, state: &State) {
-        let sound = || State { plan: without_deadlines(&state.plan), ..state.clone() }.sound();
-        let words = fault_of_deadlines(&state.plan).filter(|_| sound());
+        let sound = |plan: &Plan| State { plan: plan.clone(), ..state.clone() }.sound();
+        let words = only_fault(&state.plan, sound);
         self.add_cases(command, words.map(|words| (12, words)));
+    }
+
+    /// Notes the case of a tick at this instant that is answered so, from the state after it.
+    pub fn note_instant(
+        &mut self,
+        command: &'static str,
+        instant: u32,
+        state: &State,
+        answer: &Result<u64, Refusal>,
+    ) {
+        let Some(at) = edges::INSTANTS.iter().position(|&edge| edge == instant) else { return };
+        let number = answer.as_ref().err().map_or(0, |refusal| refusal.number);
+        let finished = number != 0 && state.all_finished();
+        let case = INSTANTS[at][usize::from(finished)];
+        if case.0 == number && (number != 12 || state.sound_at_any_instant()) {
+            self.add_times(command, case, 1);
+        }
     }
 
     /// Notes the cases of accepted margins.
@@ -156,7 +171,7 @@ impl Reached {
         self.add_cases(command, cases.into_iter().filter(|(so, _)| *so).map(|(_, case)| case));
     }
 
-    /// Notes the case of a simulation or timetable that answers these times so.
+    /// Notes the cases of a simulation or timetable that answers these times so.
     pub fn note_times<T>(
         &mut self,
         command: &'static str,
@@ -165,23 +180,38 @@ impl Reached {
         times: &[u32],
         answer: &Result<T, Refusal>,
     ) {
-        let below = |t: usize| times[t] < best(plan, constraint, t);
-        let case = match answer {
-            Ok(_) if (0..times.len()).any(below) => TIME_BELOW_BEST,
-            Err(Refusal { number: 18, place }) if times[*place as usize] == 0 => TIME_OF_0,
-            Err(Refusal { number: 18, .. }) => TIME_ABOVE_WORST,
-            _ => return,
-        };
-        self.add_times(command, case, 1);
+        match answer {
+            Ok(_) => {
+                let below = |t: usize| times[t] < pair_of(plan, constraint, t).0;
+                let below = (0..times.len()).any(below).then_some(TIME_BELOW_BEST);
+                self.add_cases(command, below);
+                self.add_cases(command, cases_among(times, &edges::TIMES, &TIME_EDGES));
+            }
+            Err(Refusal { number: 18, place }) => {
+                let task = *place as usize;
+                let (time, worst) = (times[task], pair_of(plan, constraint, task).1);
+                let longest = time == LONGEST_TIME + 1 && worst == LONGEST_TIME;
+                self.add_cases(command, longest.then_some(TIME_ABOVE_LONGEST));
+                self.add_cases(command, [if time == 0 { TIME_OF_0 } else { TIME_ABOVE_WORST }]);
+            }
+            _ => {}
+        }
     }
 
-    /// Notes the case of an accepted tick to this instant, from the state after it or a later one.
+    /// Notes the cases of an accepted tick to this instant, from the state after it or a later one.
     pub fn note_tick(&mut self, command: &'static str, state: &State, instant: u32) {
         let State { plan, constraint, starts, finishes, .. } = state;
-        let mut reported = members(state.finished).filter(|&t| finishes[t] == instant);
-        if reported.any(|t| instant - starts[t] < best(plan, constraint, t)) {
-            self.add_times(command, EARLY_REPORT, 1);
-        }
+        let reported = || members(state.finished).filter(|&t| finishes[t] == instant);
+        let early = |t: usize| instant - starts[t] < pair_of(plan, constraint, t).0;
+        self.add_cases(command, reported().any(early).then_some(EARLY_REPORT));
+        let longest = |t: usize| instant - starts[t] == LONGEST_TIME;
+        self.add_cases(command, reported().any(longest).then_some(LONGEST_REPORT));
+    }
+
+    /// Notes the case of a tick that is refused with 16 for this task.
+    pub fn note_overrun(&mut self, command: &'static str, state: &State, task: u64) {
+        let (_, worst) = pair_of(&state.plan, &state.constraint, task as usize);
+        self.add_cases(command, (worst == LONGEST_TIME).then_some(LONGEST_OVERRUN));
     }
 
     fn add_cases(&mut self, command: &'static str, cases: impl IntoIterator<Item = Case>) {
@@ -238,12 +268,13 @@ impl Reached {
         let used = (1..=LAST).filter(|&n| n != UNUSED);
         let by_none = used.filter(|&n| self.total(n) == 0).map(|n| format!("never reached: {n}"));
         let unused = (self.total(UNUSED) > 0).then(|| format!("given: {UNUSED}"));
-        by_none.chain(self.never_given(&ASKED)).chain(unused).collect()
+        let by_one = [self.never_given(&ASKED_OF_LINES), self.never_given(&ASKED)].concat();
+        by_none.chain(by_one).chain(unused).collect()
     }
 
     /// What was asked of the texts for a program and not met in them.
     pub fn faults_of_texts(&self) -> Vec<String> {
-        self.never_given(&ASKED_OF_TEXTS)
+        [self.never_given(&ASKED_OF_LINES), self.never_given(&ASKED_OF_TEXTS)].concat()
     }
 
     fn never_given(&self, asked: &[Asked]) -> Vec<String> {
@@ -256,53 +287,61 @@ impl Reached {
     }
 }
 
-/// The case of a line, counted from 1, that is refused with this number.
-fn case_of_line(text: &[u8], number: u64, place: usize) -> Option<Case> {
-    let lines: Vec<&[u8]> = text.split(|&b| b == b'\n').collect();
-    let is_deadline = |line: &&[u8]| line.starts_with(b"D");
-    let line = lines.get(place - 1)?;
-    if !is_deadline(line) {
-        let after = place > 1 && is_deadline(&lines[place - 2]);
-        return (number == 5 && after).then_some(AFTER_D_LINE);
+/// The cases of those edges that are among the numbers.
+fn cases_among<'a, const N: usize>(
+    numbers: &'a [u32],
+    edges: &'a [u32; N],
+    cases: &'a [Case; N],
+) -> impl Iterator<Item = Case> + 'a {
+    let edges = edges.iter().zip(cases);
+    edges.filter(|(edge, _)| numbers.contains(edge)).map(|(_, case)| *case)
+}
+
+/// Takes one sort of fault away.
+type Mend = fn(&mut Plan);
+
+const MENDS: [(Mend, &str); 3] =
+    [(lower_deadlines, ABOVE), (drop_deadlines, ABSENT), (shorten_times, LONG)];
+
+/// What alone is wrong with a plan: it is not right, and is once that is mended.
+fn only_fault(plan: &Plan, right: impl Fn(&Plan) -> bool) -> Option<&'static str> {
+    if right(plan) {
+        return None;
     }
-    Some(match number {
-        2 => D_LINE_FORM,
-        3 => case_of_range(line),
-        5 => D_LINE_KIND,
-        6 => D_LINE_UNKNOWN,
-        _ => D_LINE_AGAIN,
-    })
+    let mended = |mend: &Mend| {
+        let mut plan = plan.clone();
+        mend(&mut plan);
+        plan
+    };
+    MENDS.iter().find(|(mend, _)| right(&mended(mend))).map(|(_, words)| *words)
 }
 
-/// For a D line that has the form of one.
-fn case_of_range(line: &[u8]) -> Case {
-    let fields = String::from_utf8_lossy(line);
-    let mut fields = fields.split('\t').skip(1).map(|field| field.parse().unwrap_or(TASKS));
-    match (fields.next(), fields.next()) {
-        (Some(0..TASKS), Some(0)) => D_LINE_OF_0,
-        (Some(0..TASKS), _) => D_LINE_ABOVE,
-        _ => D_LINE_TASK,
-    }
+/// Those one above the latest.
+fn lower_deadlines(plan: &mut Plan) {
+    lower(&mut plan.deadlines, LATEST_DEADLINE);
 }
 
-fn without_deadlines(plan: &Plan) -> Plan {
-    Plan { deadlines: [0; TASKS], ..plan.clone() }
+/// Those of absent tasks, if in range.
+fn drop_deadlines(plan: &mut Plan) {
+    let absent = plan.deadlines.iter_mut().skip(plan.tasks as usize);
+    absent.filter(|deadline| **deadline <= LATEST_DEADLINE).for_each(|deadline| *deadline = 0);
 }
 
-/// Whether deadlines are out of range or of absent tasks; nothing if both or neither.
-fn fault_of_deadlines(plan: &Plan) -> Option<&'static str> {
-    let above = with_deadline(plan).any(|t| plan.deadlines[t] > LATEST_DEADLINE);
-    let absent = with_deadline(plan).any(|t| t as u64 >= plan.tasks);
-    match (above, absent) {
-        (true, false) => Some(ABOVE),
-        (false, true) => Some(ABSENT),
-        _ => None,
-    }
+/// Those one above the longest.
+fn shorten_times(plan: &mut Plan) {
+    lower(&mut plan.best, LONGEST_TIME);
+    lower(&mut plan.worst, LONGEST_TIME);
 }
 
-/// The best time of a task's chosen type. Only for accepted plans and constraints.
-fn best(plan: &Plan, constraint: &Constraint, task: usize) -> u32 {
-    plan.best[pair(task, constraint.chosen()[task])]
+/// Makes each number that is one above the greatest that one.
+fn lower(numbers: &mut [u32], greatest: u32) {
+    numbers.iter_mut().filter(|n| **n == greatest + 1).for_each(|n| *n = greatest);
+}
+
+/// Best and worst of a task's chosen type. Only for accepted plans and constraints.
+fn pair_of(plan: &Plan, constraint: &Constraint, task: usize) -> (u32, u32) {
+    let at = pair(task, constraint.chosen()[task]);
+    (plan.best[at], plan.worst[at])
 }
 
 fn name((number, words): Case) -> String {

@@ -11,8 +11,9 @@ struct Reading {
     in_order: u64,
 }
 
-/// The line forms, in the order in which they may follow each other.
-const FORMS: [(u8, usize); 5] = [(b'U', 2), (b'T', 4), (b'A', 2), (b'D', 2), (b'C', 2)];
+/// The letters of the lines and their counts of fields, in the order in which lines may follow each
+/// other.
+pub const FORMS: [(u8, usize); 5] = [(b'U', 2), (b'T', 4), (b'A', 2), (b'D', 2), (b'C', 2)];
 const U: usize = 0;
 const T: usize = 1;
 const A: usize = 2;
@@ -45,7 +46,7 @@ pub fn read(text: &[u8]) -> Result<(Plan, Constraint), Refusal> {
 }
 
 /// The kind of a line and its fields, or nothing if it has none of the forms.
-fn form(line: &[u8]) -> Option<(usize, Vec<usize>)> {
+pub fn form(line: &[u8]) -> Option<(usize, Vec<usize>)> {
     let mut parts = line.split(|&b| b == b'\t');
     let letter = parts.next()?;
     let kind = FORMS.iter().position(|f| letter == [f.0])?;
@@ -54,7 +55,7 @@ fn form(line: &[u8]) -> Option<(usize, Vec<usize>)> {
 }
 
 /// At least one digit and not too many, no leading zero except for 0 itself.
-fn field(bytes: &[u8]) -> Option<usize> {
+pub fn field(bytes: &[u8]) -> Option<usize> {
     let leading_zero = bytes.len() > 1 && bytes[0] == b'0';
     if bytes.is_empty() || bytes.len() > DIGITS || leading_zero {
         return None;
@@ -65,7 +66,7 @@ fn field(bytes: &[u8]) -> Option<usize> {
     Some(bytes.iter().fold(0, |n, b| n * 10 + (b - b'0') as usize))
 }
 
-fn in_range(kind: usize, f: &[usize]) -> bool {
+pub fn in_range(kind: usize, f: &[usize]) -> bool {
     let (is_type, is_task) = (|n| n < TYPES, |n| n < TASKS);
     let is_time = |n| (1..=LONGEST_TIME as usize).contains(&n);
     let is_deadline = |n| (1..=LATEST_DEADLINE as usize).contains(&n);

@@ -54,16 +54,21 @@ impl State {
 
     /// Every clause of 12.
     pub fn sound(&self) -> bool {
+        self.sound_at_any_instant()
+            && self.instant <= LAST_INSTANT
+            && (self.instant < LAST_INSTANT || self.all_finished())
+    }
+
+    /// Every clause of 12 but the limit of the instant.
+    pub fn sound_at_any_instant(&self) -> bool {
         check(&self.plan, &self.constraint).is_ok()
             && self.started <= self.plan.tasks
             && self.finished & !self.started_set() == 0
             && (0..TASKS).all(|t| self.notes_are_right(t))
             && self.running_fits()
-            && self.instant <= LAST_INSTANT
-            && (self.instant < LAST_INSTANT || self.all_finished())
     }
 
-    fn all_finished(&self) -> bool {
+    pub fn all_finished(&self) -> bool {
         self.finished == first_tasks(self.plan.tasks)
     }
 

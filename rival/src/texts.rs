@@ -1,4 +1,5 @@
 //! Random plan texts: sound, refused for one fault, damaged, and as long as may be.
+use crate::edges::{self, SIXTEEN_BITS};
 use crate::inputs;
 use crate::limits::*;
 use crate::plan::{pair, Constraint, Plan};
@@ -16,10 +17,11 @@ pub fn text(random: &mut Random) -> Vec<u8> {
         return join(&extreme_lines(random));
     }
     let mut lines = sound_lines(random);
-    match random.below(13) {
-        0 | 1 => refused_deadline(random, &mut lines),
-        2 | 3 => refused_plan(random, &mut lines),
-        4..=6 => return damaged_text(random, lines),
+    match random.below(26) {
+        0..=2 => refused_deadline(random, &mut lines),
+        3..=5 => refused_plan(random, &mut lines),
+        6..=9 => refused_field(random, &mut lines),
+        10..=13 => return damaged_text(random, lines),
         _ => {}
     }
     join(&lines)
@@ -46,9 +48,17 @@ fn join(lines: &[String]) -> Vec<u8> {
 
 /// Best and worst, often small so that runs come to their end.
 fn times(random: &mut Random, greatest: u64) -> (u64, u64) {
-    let worst = random.from(1, greatest);
-    let best = if random.once_in(4) { worst } else { random.from(1, worst) };
+    let worst = time(random, greatest);
+    let best = if random.once_in(4) { worst } else { time(random, worst) };
     (best, worst)
+}
+
+/// A time up to the greatest; where that is long, perhaps an edge.
+fn time(random: &mut Random, greatest: u64) -> u64 {
+    if greatest >= SIXTEEN_BITS.into() && random.once_in(3) {
+        return u64::from(random.pick(&edges::TIMES)).min(greatest);
+    }
+    random.from(1, greatest)
 }
 
 /// A plan and constraint that the check takes.
@@ -61,7 +71,8 @@ pub fn sound_lines(random: &mut Random) -> Vec<String> {
     let types = random.pick(&[1, 2, 2, 3, 3, 4, TYPES as u64]);
     let most_tasks = TASKS as u64;
     let tasks = random.pick(&[1, 2, 3, 4, 5, 6, 7, 8, 10, 12, 20, 40, most_tasks - 1, most_tasks]);
-    let greatest = random.pick(&[1, 2, 3, 4, 5, 8, 30, LONGEST_TIME.into()]);
+    let long = random.pick(&[SIXTEEN_BITS, LONGEST_TIME, LONGEST_TIME]);
+    let greatest = random.pick(&[1, 2, 3, 4, 5, 8, 30, long.into()]);
     let most_units = random.pick(&[1, 2, 3, UNITS as u64]);
     let mut lines: Vec<String> =
         (0..types).map(|y| format!("U\t{y}\t{}", random.from(1, most_units))).collect();
@@ -196,6 +207,40 @@ fn odd_deadline(random: &mut Random) -> String {
     let long = format!("D\t0\t1{}", "0".repeat(DIGITS));
     let at = random.below(lines.len() as u64 + 1) as usize;
     lines.get(at).map_or(long, |line| line.to_string())
+}
+
+/// Makes sound lines faulty by a line of any kind in which one field has a digit too many, begins
+/// with 0 or is too great.
+fn refused_field(random: &mut Random, lines: &mut Vec<String>) {
+    let line = if random.once_in(6) { one_above(random) } else { wide_field(random) };
+    lines.insert(random.from(0, lines.len() as u64) as usize, line);
+}
+
+/// A line in which best, worst or deadline is one above what it may be.
+fn one_above(random: &mut Random) -> String {
+    let (longest, above) = (LONGEST_TIME, LONGEST_TIME + 1);
+    let pairs = [(above, longest), (above, 1), (1, above), (longest, above)];
+    let (best, worst) = random.pick(&pairs);
+    match random.once_in(3) {
+        true => format!("D\t0\t{}", LATEST_DEADLINE + 1),
+        false => format!("T\t0\t0\t{best}\t{worst}"),
+    }
+}
+
+/// A line in which one field has all digits that a field may have, or one more.
+fn wide_field(random: &mut Random) -> String {
+    let line = random.pick(&["U\t0\t1", "T\t0\t0\t1\t1", "A\t0\t1", "D\t0\t1", "C\t0\t0"]);
+    let mut parts: Vec<String> = line.split('\t').map(str::to_string).collect();
+    let at = random.from(1, parts.len() as u64 - 1) as usize;
+    let (above, wider) = (u64::from(LONGEST_TIME) + 1, 10u64.pow(DIGITS as u32));
+    parts[at] = match random.below(6) {
+        0 => random.pick(&[above, wider - 1]).to_string(),
+        1 => random.from(above, wider - 1).to_string(),
+        2 => random.pick(&[wider, 10 * wider - 1]).to_string(),
+        3 => random.from(wider, 10 * wider - 1).to_string(),
+        _ => format!("{:0>DIGITS$}", parts[at]),
+    };
+    parts.join("\t")
 }
 
 /// Makes sound lines such that they are read and the check refuses: some tasks have no times, one

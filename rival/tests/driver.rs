@@ -1,9 +1,15 @@
 //! Sessions of the driver, answer by answer, on plan A of document 01.
+use rival::cases::*;
 use rival::driver::{session, LONGEST_LIST, MOST_ROOM, TOO_LONG};
-use rival::limits::TASKS;
-use rival::reached::*;
+use rival::limits::*;
+use rival::lines::*;
+use rival::reached::{Reached, TEXT, TICKS_OF_Z};
 
 const PLAN_A: &str = include_str!("../../examples/plan-a.txt");
+
+/// The latest deadline, and one that is out of range.
+const LATEST: u32 = LATEST_DEADLINE;
+const ABOVE: u32 = LATEST_DEADLINE + 1;
 
 /// The answers to these commands after a text, line by line.
 fn answers(text: &str, commands: &[&str]) -> Vec<String> {
@@ -130,7 +136,7 @@ fn refused_margins() {
     let refused = |first: &str| margins(&format!("{first}\t0\t0\t0"), &[]);
     let after = |line: &str| answers(PLAN_A, &["P\t14\t0\t3", line, "D"])[2].clone();
     assert_eq!(answers("", &["D"]), [refused("8\t0")]);
-    assert_eq!(after("P\t14\t1\t65536"), refused("8\t0"));
+    assert_eq!(after(&format!("P\t14\t1\t{ABOVE}")), refused("8\t0"));
     assert_eq!(after("P\t14\t5\t1"), refused("8\t0"));
     assert_eq!(after("P\t6\t0\t4"), refused("9\t4"));
     assert_eq!(after("P\t8\t1\t1"), refused("10\t1"));
@@ -152,9 +158,10 @@ fn deadlines_of_a_refused_text() {
 /// `P` puts deadlines of the kept plan, `R` those of the kept state's plan.
 #[test]
 fn deadlines_of_plan_and_state() {
-    let lines = answers(PLAN_A, &["S", "P\t14\t0\t65536", "T\t1", "K", "S"]);
+    let (put, back) = (format!("R\t14\t0\t{ABOVE}"), format!("R\t14\t0\t{LATEST}"));
+    let lines = answers(PLAN_A, &["S", &format!("P\t14\t0\t{ABOVE}"), "T\t1", "K", "S"]);
     assert_eq!(lines, ["start\t0\t0\t1", "put", "tick\t0\t0\t6", "check\t8\t0", "start\t8\t0\t0"]);
-    let lines = answers(PLAN_A, &["S", "R\t14\t0\t65536", "T\t1", "K", "R\t14\t0\t65535", "T\t1"]);
+    let lines = answers(PLAN_A, &["S", &put, "T\t1", "K", &back, "T\t1"]);
     assert_eq!(lines[1..], ["put", "tick\t12\t0\t0", "check\t0\t0", "put", "tick\t0\t0\t6"]);
     let lines = answers(PLAN_A, &["S", "R\t14\t63\t1", "T\t1", "R\t14\t63\t0", "T\t1"]);
     assert_eq!(lines[1..], ["put", "tick\t12\t0\t0", "put", "tick\t0\t0\t6"]);
@@ -274,12 +281,12 @@ fn cases_of_the_ends() {
         assert_eq!(reached.times(TEXT, 0), 1);
         [LEAST_OF_ALL, GREATEST_OF_ALL].map(|case| reached.times_of_case(TEXT, case))
     };
-    assert_eq!(case(65_535, "D\t63\t1"), [1, 0]);
-    assert_eq!(case(65_535, "D\t63\t2"), [0, 0]);
-    assert_eq!(case(65_534, "D\t63\t1"), [0, 0]);
-    assert_eq!(case(1, "D\t0\t65535"), [0, 1]);
-    assert_eq!(case(1, "D\t0\t65534"), [0, 0]);
-    assert_eq!(case(1, "D\t1\t65535"), [0, 0]);
+    assert_eq!(case(LONGEST_TIME, "D\t63\t1"), [1, 0]);
+    assert_eq!(case(LONGEST_TIME, "D\t63\t2"), [0, 0]);
+    assert_eq!(case(LONGEST_TIME - 1, "D\t63\t1"), [0, 0]);
+    assert_eq!(case(1, &format!("D\t0\t{LATEST}")), [0, 1]);
+    assert_eq!(case(1, &format!("D\t0\t{}", LATEST - 1)), [0, 0]);
+    assert_eq!(case(1, &format!("D\t1\t{LATEST}")), [0, 0]);
 }
 
 /// Only if nothing else is wrong, and with both faults neither.
@@ -287,14 +294,16 @@ fn cases_of_the_ends() {
 fn cases_of_wrong_deadlines() {
     let cases = [DEADLINE_ABOVE, DEADLINE_ABSENT];
     let times = |commands: &[&str]| cases.map(|case| reached(commands).times_of_case("K", case));
-    assert_eq!(times(&["P\t14\t0\t65536", "K"]), [1, 0]);
-    assert_eq!(times(&["P\t14\t5\t65535", "K"]), [0, 1]);
-    assert_eq!(times(&["P\t14\t5\t65536", "K"]), [0, 0]);
-    assert_eq!(times(&["P\t14\t0\t65536", "P\t1\t0\t0", "K"]), [0, 0]);
-    assert_eq!(times(&["P\t14\t0\t65535", "P\t1\t0\t0", "K"]), [0, 0]);
+    let (above, latest) = (format!("P\t14\t0\t{ABOVE}"), format!("P\t14\t0\t{LATEST}"));
+    assert_eq!(times(&[&above, "K"]), [1, 0]);
+    assert_eq!(times(&[&format!("P\t14\t5\t{LATEST}"), "K"]), [0, 1]);
+    assert_eq!(times(&[&format!("P\t14\t5\t{ABOVE}"), "K"]), [0, 0]);
+    assert_eq!(times(&[&format!("P\t14\t0\t{}", ABOVE + 1), "K"]), [0, 0]);
+    assert_eq!(times(&[&above, "P\t1\t0\t0", "K"]), [0, 0]);
+    assert_eq!(times(&[&latest, "P\t1\t0\t0", "K"]), [0, 0]);
     let cases = [UNSOUND_ABOVE, UNSOUND_ABSENT];
     let times = |commands: &[&str]| cases.map(|case| reached(commands).times_of_case("T", case));
-    assert_eq!(times(&["S", "R\t14\t0\t65536", "T\t1"]), [1, 0]);
+    assert_eq!(times(&["S", &format!("R\t14\t0\t{ABOVE}"), "T\t1"]), [1, 0]);
     assert_eq!(times(&["S", "R\t14\t5\t1", "T\t1"]), [0, 1]);
     assert_eq!(times(&["S", "R\t14\t5\t1", "R\t9\t0\t2", "T\t1"]), [0, 0]);
 }
@@ -310,7 +319,8 @@ fn cases_of_d_lines() {
     assert_eq!(case("D\t0"), [D_LINE_FORM]);
     assert_eq!(case("D\t64\t0"), [D_LINE_TASK]);
     assert_eq!(case("D\t0\t0"), [D_LINE_OF_0]);
-    assert_eq!(case("D\t0\t65536"), [D_LINE_ABOVE]);
+    assert_eq!(case(&format!("D\t0\t{ABOVE}")), [D_LINE_ABOVE, D_LINE_ONE_ABOVE]);
+    assert_eq!(case(&format!("D\t0\t{}", ABOVE + 1)), [D_LINE_ABOVE]);
     assert_eq!(case("C\t0\t0\nD\t0\t1"), [D_LINE_KIND]);
     assert_eq!(case("D\t1\t1"), [D_LINE_UNKNOWN]);
     assert_eq!(case("D\t0\t1\nD\t0\t1"), [D_LINE_AGAIN]);

@@ -1,4 +1,4 @@
-//! P1 to P12 and the "Others" of document 01, with Job 1 of document 02.
+//! P1 to P12 and the "Others" of document 01, with Jobs 1 and 4 of document 02.
 use rival::check::check;
 use rival::limits::*;
 use rival::plan::*;

@@ -1,11 +1,14 @@
 //! The fast forms answer as the plain ones do.
+use rival::cases::{self, Case};
 use rival::driver::Driver;
+use rival::edges;
 use rival::fast;
 use rival::inputs::{reports, some_report, EDGES};
 use rival::limits::*;
+use rival::lines::{FIELDS, LINES};
 use rival::plan::*;
 use rival::random::Random;
-use rival::reached::{self, Case, Reached, TEXT};
+use rival::reached::{Reached, TEXT};
 use rival::state::{start, State};
 use rival::texts::{self, sound_plan};
 
@@ -42,7 +45,9 @@ fn read() {
         met.0.note_text(&text, &plain);
     }
     met.all(&[0, 1, 2, 3, 4, 5, 6, 7]);
-    met.cases(TEXT, &reached::LINES);
+    met.cases(TEXT, &LINES);
+    met.cases(TEXT, FIELDS.as_flattened());
+    met.cases(TEXT, cases::READ_EDGES.as_flattened());
 }
 
 /// Puts something else in one place.
@@ -59,8 +64,9 @@ fn damage(random: &mut Random, plan: &mut Plan, constraint: &mut Constraint) {
         3 => plan.best[pair(p, kind)] = value as u32,
         4 => plan.worst[pair(p, kind)] = value as u32,
         5 => {
-            plan.best[pair(p, kind)] = 3;
-            plan.worst[pair(p, kind)] = 3;
+            let time = random.pick(&[3, 3, LONGEST_TIME, LONGEST_TIME + 1]);
+            plan.best[pair(p, kind)] = time;
+            plan.worst[pair(p, kind)] = time;
         }
         6 => plan.best[pair(p, 0)..pair(p, 0) + TYPES].fill(0),
         7 | 8 => plan.predecessors[p] ^= 1 << q,
@@ -96,7 +102,7 @@ fn check() {
         }
     }
     met.all(&[0, 8, 9, 10, 11]);
-    met.cases("", &reached::DEADLINES);
+    met.cases("", &cases::FAULTS);
 }
 
 #[test]
@@ -117,7 +123,7 @@ fn margins() {
         }
     }
     met.all(&[0, 8, 9, 10, 11]);
-    met.cases("", &reached::MARGINS);
+    met.cases("", &cases::MARGINS);
 }
 
 /// A session of the generator: the text, then commands.
@@ -178,14 +184,22 @@ fn start_simulate_margins_and_tick() {
     met.all(&[0, 8, 12, 13, 14, 16, 17, 18]);
 }
 
-/// Puts something nearby in one place of a state.
+/// As if all that runs had started as much later as the instant is.
+fn move_to(state: &mut State, instant: u32) {
+    for t in members(state.running()) {
+        state.starts[t] += instant - state.instant;
+    }
+    state.instant = instant;
+}
+
+/// Puts something nearby in one place of a state, or moves it to one of the last instants.
 fn alter(random: &mut Random, state: &mut State) {
     let t = random.below(state.plan.tasks + 1) as usize % TASKS;
     let kind = random.below(state.plan.types) as usize;
     let near = (state.instant + 2).saturating_sub(random.below(5) as u32);
     match random.below(8) {
         0 => state.instant = near,
-        1 => state.instant = LAST_INSTANT - 1 + random.below(3) as u32,
+        1 => move_to(state, random.pick(&edges::INSTANTS)),
         2 => state.started = (state.started + 1).saturating_sub(2 * random.below(2)),
         3 => state.finished ^= 1 << t,
         4 => state.starts[t] = near,
@@ -205,13 +219,16 @@ fn tick_on_altered_states() {
             let report = some_report(&mut random, &state);
             let mut altered = state.clone();
             alter(&mut random, &mut altered);
+            let instant = altered.instant;
             let plain = altered.clone().tick(report);
             assert_eq!(plain, fast::tick(altered, report));
             met.note(&plain.1);
+            met.0.note_instant("", instant, &plain.0, &plain.1);
             (state, _) = state.tick(report);
         }
     }
     met.all(&[0, 12, 14, 16]);
+    met.cases("", cases::INSTANTS.as_flattened());
 }
 
 #[test]

@@ -57,9 +57,9 @@ fn refusal(text: &str) -> Refusal {
 
 #[test]
 fn a_deadline_for_each_task() {
-    let text = plan_a("D\t0\t3\nD\t1\t5\nD\t2\t4\nD\t3\t8\nD\t4\t65535\n");
-    expect(accepted(&text), &[1, 0, -2, 0, 65_527], -2, 2);
-    let table = "0\t3\t2\t1\n1\t5\t5\t0\n2\t4\t6\t-2\n3\t8\t8\t0\n4\t65535\t8\t65527\nL\t-2\t2\n";
+    let text = plan_a("D\t0\t3\nD\t1\t5\nD\t2\t4\nD\t3\t8\nD\t4\t99\n");
+    expect(accepted(&text), &[1, 0, -2, 0, 91], -2, 2);
+    let table = "0\t3\t2\t1\n1\t5\t5\t0\n2\t4\t6\t-2\n3\t8\t8\t0\n4\t99\t8\t91\nL\t-2\t2\n";
     assert_eq!(written(&text), table);
 }
 
@@ -117,18 +117,18 @@ fn in_a_row(worst: u32, line: &str) -> String {
 fn the_least_of_all_margins() {
     let text = in_a_row(LONGEST_TIME, "D\t63\t1\n");
     let answer = accepted(&text);
-    assert_eq!((answer.least, answer.task, answer.margins[63]), (-4_194_239, 63, -4_194_239));
-    assert_eq!(answer.least, LEAST_MARGIN);
-    assert_eq!(written(&text), "63\t1\t4194240\t-4194239\nL\t-4194239\t63\n");
+    assert_eq!((answer.least, answer.task, answer.margins[63]), (LEAST_MARGIN, 63, LEAST_MARGIN));
+    let line = format!("63\t1\t{LAST_INSTANT}\t{LEAST_MARGIN}\n");
+    assert_eq!(written(&text), format!("{line}L\t{LEAST_MARGIN}\t63\n"));
 }
 
 #[test]
 fn the_greatest_of_all_margins() {
-    let text = in_a_row(1, "D\t0\t65535\n");
-    expect(accepted(&text), &[65_534], 65_534, 0);
-    assert_eq!(accepted(&text).least, GREATEST_MARGIN);
-    let alone = "U\t0\t1\nT\t0\t0\t1\t1\nD\t0\t65535\nC\t0\t0\n";
-    assert_eq!(written(alone), "0\t65535\t1\t65534\nL\t65534\t0\n");
+    let text = in_a_row(1, &format!("D\t0\t{LATEST_DEADLINE}\n"));
+    expect(accepted(&text), &[GREATEST_MARGIN], GREATEST_MARGIN, 0);
+    let alone = format!("U\t0\t1\nT\t0\t0\t1\t1\nD\t0\t{LATEST_DEADLINE}\nC\t0\t0\n");
+    let line = format!("0\t{LATEST_DEADLINE}\t1\t{GREATEST_MARGIN}\n");
+    assert_eq!(written(&alone), format!("{line}L\t{GREATEST_MARGIN}\t0\n"));
 }
 
 #[test]
@@ -177,7 +177,8 @@ fn d_lines_without_form() {
     for line in ["D", "D\t0", "D\t0\t", "D\t\t1", "D\t0\t1\t", "D\t0\t1\t1", "D\t0\t01", "D\t00\t1"] {
         assert_eq!(refusal(&plan_a(&format!("{line}\n"))), no(2, D_PLACE));
     }
-    for line in ["d\t0\t1", "DD\t0\t1", "D 0 1", "D\t0\t-1", "D\t0\t1\r", "D\t0\t100000"] {
+    let longer = format!("D\t0\t{}", "1".repeat(DIGITS + 1));
+    for line in ["d\t0\t1", "DD\t0\t1", "D 0 1", "D\t0\t-1", "D\t0\t1\r", &longer] {
         assert_eq!(refusal(&plan_a(&format!("{line}\n"))), no(2, D_PLACE));
     }
     assert_eq!(refusal(&format!("{BEFORE}D\t0\t1")), no(2, D_PLACE));
@@ -185,8 +186,11 @@ fn d_lines_without_form() {
 
 #[test]
 fn d_lines_out_of_range() {
-    for line in ["D\t64\t1", "D\t99999\t1", "D\t0\t0", "D\t0\t65536", "D\t0\t99999", "D\t64\t0"] {
-        assert_eq!(refusal(&plan_a(&format!("{line}\n"))), no(3, D_PLACE));
+    let above = (LATEST_DEADLINE + 1).to_string();
+    let greatest = "9".repeat(DIGITS);
+    let fields = [("64", "1"), (&greatest, "1"), ("0", "0"), ("0", &above), ("0", &greatest), ("64", "0")];
+    for (task, deadline) in fields {
+        assert_eq!(refusal(&plan_a(&format!("D\t{task}\t{deadline}\n"))), no(3, D_PLACE));
     }
     for deadline in [1, LATEST_DEADLINE] {
         let (plan, constraint) = read(plan_a(&format!("D\t4\t{deadline}\n")).as_bytes()).unwrap();
@@ -241,7 +245,8 @@ fn d_lines_with_several_faults() {
 #[test]
 fn wrong_deadlines_in_a_plan() {
     let (plan, constraint) = read(plan_a("").as_bytes()).unwrap();
-    let wrong = [(0, 65_536), (4, u32::MAX), (5, 1), (63, 65_535), (5, 65_536)];
+    let (latest, above) = (LATEST_DEADLINE, LATEST_DEADLINE + 1);
+    let wrong = [(0, above), (4, u32::MAX), (5, 1), (63, latest), (5, above)];
     for (task, deadline) in wrong {
         let mut wrong = plan.clone();
         wrong.deadlines[task] = deadline;
@@ -259,7 +264,7 @@ fn wrong_deadlines_in_a_plan() {
 /// Start and tick keep the deadlines, and a late task is no fault of theirs.
 #[test]
 fn deadlines_in_a_run() {
-    let (plan, constraint) = read(plan_a("D\t0\t1\nD\t4\t65535\n").as_bytes()).unwrap();
+    let (plan, constraint) = read(plan_a("D\t0\t1\nD\t4\t99\n").as_bytes()).unwrap();
     let (state, answer) = start(&plan, &constraint);
     assert_eq!((&state.plan, answer), (&plan, Ok(0b1)));
     let (state, answer) = state.tick(0);

@@ -1,4 +1,5 @@
 //! What must agree on random plans: the two simulations, the journal and the live run.
+use rival::edges::SIXTEEN_BITS;
 use rival::journal::{Journal, Progress};
 use rival::inputs::{allowed_times, some_report};
 use rival::limits::*;
@@ -43,6 +44,33 @@ fn the_simulation_is_the_live_run() {
         assert_eq!((state.starts, state.finishes), (run.starts, run.finishes));
         assert_eq!(state.finished, first_tasks(plan.tasks));
     }
+}
+
+/// The same for runs of any length, in both forms: between two finishes no tick starts anything, so
+/// the instant moves on to the one before each finish.
+#[test]
+fn the_simulation_is_the_long_live_run() {
+    let (mut random, mut long) = (Random::new(7), 0);
+    for _ in 0..300 {
+        let (plan, constraint) = sound_plan(&mut random);
+        let times = allowed_times(&mut random, &plan, &constraint);
+        let run = simulate(&plan, &constraint, &times).unwrap();
+        let (mut state, _) = start(&plan, &constraint);
+        while let Some(next) = members(state.running()).map(|t| run.finishes[t]).min() {
+            let up = members(state.running()).filter(|&t| run.finishes[t] == next);
+            let report = up.fold(0, |set, t| set | 1 << t);
+            state.instant = next - 1;
+            let fast = rival::fast::tick(state.clone(), report);
+            let answer;
+            (state, answer) = state.tick(report);
+            assert!(answer.is_ok());
+            assert_eq!((&state, answer), (&fast.0, fast.1));
+        }
+        assert_eq!((state.starts, state.finishes), (run.starts, run.finishes));
+        assert_eq!(state.finished, first_tasks(plan.tasks));
+        long += u64::from(run.response > SIXTEEN_BITS);
+    }
+    assert!(long > 20);
 }
 
 /// The state has the journal's notes.

@@ -50,7 +50,7 @@ timeLeft s t = implies (isRunning (notesOf s) t) (ltb (s .instant) (startIn s t 
 unfoldable pub unitsEnough : State → ℕ → Bool
 unitsEnough s k = leb (busy (s .constraint) (notesOf s) k) (getD (s .plan .units) k 0)
 
--- not "the instant above 4,194,240, or equal to it with a task unfinished"
+-- not "the instant above" the last, "or equal to it with a task unfinished"
 unfoldable pub instantLow : State → Bool
 instantLow s = leb (s .instant) lastInstant && (over (s .plan) (notesOf s) || ltb (s .instant) lastInstant)
 

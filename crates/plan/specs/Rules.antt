@@ -22,11 +22,12 @@ mostTasks = 64
 abbrev pub mostPairs : ℕ
 mostPairs = mostTasks * mostTypes
 
+-- "Times and deadlines go up to 1,000,000 ticks" (document 02, 4)
 abbrev pub longestTime : ℕ
-longestTime = 65535
+longestTime = 1000000
 
 abbrev pub latestDeadline : ℕ
-latestDeadline = 65535
+latestDeadline = 1000000
 
 -- no run is longer: every task one after the other, each with the longest time
 abbrev pub lastInstant : ℕ
@@ -74,7 +75,7 @@ unitsOk types units k =
     let present = ltb k types in
     (present && between 1 n mostUnits) || (not present && eqb n 0)
 
--- "A pair is 0 and 0 where the task cannot use the type; otherwise 1 ≤ best ≤ worst ≤ 65,535",
+-- "A pair is 0 and 0 where the task cannot use the type; otherwise 1 ≤ best ≤ worst", which is at most the longest time;
 -- "Pairs of absent tasks or types are 0 and 0"
 unfoldable pub pairOk : Bool → ℕ → ℕ → Bool
 pairOk present best worst =

@@ -11,7 +11,7 @@ use Rattle.task_set.specs.Sets.{has, width}
 use Rattle.plan.specs.Rules.{mostTypes, mostTasks, longestTime, predecessorsOf, usable, predecessorsOk}
 use Rattle.plan.specs.Refusals.{entryAt}
 
--- a pair is 0 and 0, or 1 ≤ best ≤ worst ≤ 65,535
+-- a pair is 0 and 0, or 1 ≤ best ≤ worst, and worst at most the longest time
 unfoldable pub pairFits : ℕ → ℕ → Bool
 pairFits best worst = leb best worst && (leb worst longestTime && (eqb worst 0 || leb 1 best))
 

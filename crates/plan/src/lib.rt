@@ -17,9 +17,9 @@ pub const MOST_TASKS: usize = 64;
 
 pub const MOST_PAIRS: usize = MOST_TASKS * MOST_TYPES;
 
-pub const LONGEST_TIME: u32 = 65535;
+pub const LONGEST_TIME: u32 = 1000000;
 
-pub const LATEST_DEADLINE: u32 = 65535;
+pub const LATEST_DEADLINE: u32 = 1000000;
 
 // No run is longer: every task one after the other, each with the longest time.
 pub const LAST_INSTANT: u32 = MOST_TASKS as u32 * LONGEST_TIME;

@@ -40,10 +40,10 @@ unfoldable pub every : {A : Type 0} → (A → Bool) → List A → Bool
 every passes [] = true
 every passes (a ∷ l) = passes a && every passes l
 
--- ---- a field: "1 to 5 digits, no sign, no leading zero except for 0 itself"
+-- ---- a field: "1 to 7 digits" (document 02, 4), "no sign, no leading zero except for 0 itself"
 
 abbrev pub mostDigits : ℕ
-mostDigits = 5
+mostDigits = 7
 
 unfoldable pub isField : List ℕ → Bool
 isField s = between 1 (length s) mostDigits && (every isDigit s && (eqb (length s) 1 || not (eqb (getD s 0 0) 48)))

@@ -1,5 +1,5 @@
 -- Every slack lies between the least and the greatest that there can be. Assumes nothing.
-use mathlib.Core.Path.{_≡_, refl}
+use mathlib.Core.Path.{_≡_}
 use mathlib.Core.Bool.{true}
 use mathlib.Core.List.{List}
 use Prim.Native.Nat.{ℕ, _≤_, _<_, zero-le}
@@ -28,13 +28,6 @@ use Rattle.simulation.proofs.Ran.{worst-taken, worst-runs}
 use Rattle.slack.specs.declared.Slacks.{Slacks}
 use Rattle.slack.specs.Margins.{isDue, slackOf, slackAt, isTightest, tightest, noSlacks, someSlacks, slacksIn, slacksOf, leastSlack, greatestSlack, InRange}
 use Rattle.slack.proofs.Differences.{difference-mono}
-
--- the paper's numbers
-least-is : leastSlack ≡ negsuc 4194238
-least-is = refl
-
-greatest-is : greatestSlack ≡ pos 65534
-greatest-is = refl
 
 abbrev pub Between : ℤ → Type 0
 Between x = (leastSlack ≤ℤ x) × (x ≤ℤ greatestSlack)

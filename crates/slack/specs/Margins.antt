@@ -69,7 +69,7 @@ slacksOf p c = slacksIn p (worstCase p c)
 abbrev pub partsOf : ℤ → Parts
 partsOf x = record { negative = ltZ x (pos 0); size = natAbs x }
 
--- ---- "from −4,194,239 to 65,534"
+-- ---- "Margins run from −63,999,999 to 999,999" (document 02, 4)
 
 -- the earliest deadline and the latest finish
 abbrev pub leastSlack : ℤ

@@ -52,7 +52,7 @@ slackTextOf p s =
 
 -- bytes enough for every such text
 abbrev pub slackRoom : ℕ
-slackRoom = 1678
+slackRoom = 1935
 
 -- ---- in the run of worst times, which the program shows: 8 to 11, then 19
 

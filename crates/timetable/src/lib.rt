@@ -21,10 +21,10 @@ pub use refusal::put_refusal;
 pub use slacks::slack_table;
 
 // The bytes of the longest timetable.
-pub const LONGEST_TIMETABLE: usize = 1306;
+pub const LONGEST_TIMETABLE: usize = 1448;
 
 // Bytes enough for every text of margins.
-pub const SLACK_ROOM: usize = 1678;
+pub const SLACK_ROOM: usize = 1935;
 
 // The bytes written, with number and place 0; or a refusal's number and place.
 pub struct Written {

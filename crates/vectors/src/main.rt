@@ -1,7 +1,7 @@
 // Plan texts through the reader, and through the answers that the programs write. Standard input has records: a line that says
-// what the text is, a line with a count n, and n bytes. For each it writes that line with the number and the place that reading
-// gives; if the text is accepted, a line with its counts and what is kept of task 3 and of position 3; then the answer, and the
-// answer with the margins.
+// what the text is, a line with a count n, and n bytes, in which a letter may stand for a limit (limits.rt). For each it writes
+// that line with the number and the place that reading gives; if the text is accepted, a line with its counts and what is kept of
+// task 3 and of position 3; then the answer, and the answer with the margins.
 ghost use Prim.Native.Nat.{_<_, _≤_};
 use bench_answer::MOST_ANSWER;
 use bench_answer::MOST_SLACK_ANSWER;
@@ -10,7 +10,9 @@ use libc::STDOUT_FILENO;
 use plan::Constraint;
 use plan::Plan;
 
-// No input is longer.
+mod limits;
+
+// No input is longer, nor any text.
 const ROOM: usize = 262144;
 
 fn put(s: &[u8]) {
@@ -72,10 +74,16 @@ fn show_slack_answer(s: &[u8]) {
     put(&out[..length]);
 }
 
-fn show(s: &[u8]) {
+fn show_text(s: &[u8]) {
     show_reading(s);
     show_answer(s);
     show_slack_answer(s);
+}
+
+fn show(s: &[u8]) {
+    let mut text = [0; ROOM];
+    let n = limits::with_limits(s, &mut text);
+    show_text(part(&text, 0, n));
 }
 
 // The bytes from a up to e, or none where that is no part.

@@ -9,8 +9,8 @@ use Rattle.runs.specs.Running.{entries, typeIn, typeOf, worst, allowed, cleared
 use Rattle.runs.specs.Journal.{idle, overdue, refusal, hear, newlyStarted, answer, openingAnswer, notesFrom, answersFrom, journal, answers}
 use Rattle.simulation.specs.Simulated.{outside, timesVerdict, simulationVerdict, ran, notRun, worstCase}
 use Rattle.slack.specs.Margins.{slackOf, isTightest, tightest, noSlacks, someSlacks, slacksIn, slacksOf}
-use Rattle.worked_examples.specs.PlanA.{times, planWith, planOne, planDue, planA, fiveEntries, orderA, orderB}
-use Rattle.worked_examples.specs.Table.{run, check, simulate, listed, ticks, finishes, marginsOf, margins, due, marginTable, table, Holds}
+use Rattle.worked_examples.specs.PlanA.{times, planWith, planOne, planLong, planDue, planA, fiveEntries, orderA, orderB}
+use Rattle.worked_examples.specs.Table.{run, check, simulate, listed, ticks, finishes, marginsOf, margins, lasting, due, limitTable, marginTable, table, Holds}
 
 pub worked : Holds table
 unfolding all any count first tabulate has insert setOf timeOf predecessorsOf deadlineOf usable countsOk unitsOk
@@ -18,10 +18,13 @@ unfolding all any count first tabulate has insert setOf timeOf predecessorsOf de
     firstRefusal verdict sum greatest entries typeIn typeOf worst allowed cleared busy mayStart dispatch step opening
     timed over horizon ended response idle overdue refusal hear newlyStarted answer openingAnswer notesFrom
     answersFrom journal answers outside timesVerdict simulationVerdict ran notRun worstCase slackOf isTightest
-    tightest noSlacks someSlacks slacksIn slacksOf times planWith planOne planDue planA fiveEntries orderA orderB run
-    check simulate listed ticks finishes marginsOf margins due marginTable table
+    tightest noSlacks someSlacks slacksIn slacksOf times planWith planOne planLong planDue planA fiveEntries orderA orderB run
+    check simulate listed ticks finishes marginsOf margins lasting due limitTable marginTable table
 worked =
     (refl, (refl, (refl, (refl, (refl, (refl, (refl, (refl, (refl, (refl, (refl, (refl, (refl, (refl, (refl, margin-rows)))))))))))))))
   where
+    limit-rows : Holds limitTable
+    limit-rows = (refl, (refl, (refl, tt)))
+
     margin-rows : Holds marginTable
-    margin-rows = (refl, (refl, (refl, (refl, tt))))
+    margin-rows = (refl, (refl, (refl, limit-rows)))

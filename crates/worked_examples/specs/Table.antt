@@ -11,14 +11,14 @@ use Rattle.task_set.specs.Bounded.{tabulate}
 use Rattle.plan.specs.declared.Plan.{Plan}
 use Rattle.plan.specs.declared.Constraint.{Constraint}
 use Rattle.plan.specs.declared.Verdict.{Verdict}
-use Rattle.plan.specs.Rules.{timeOf}
+use Rattle.plan.specs.Rules.{lastInstant, timeOf}
 use Rattle.plan.specs.Refusals.{noPlan, noConstraint, verdict}
 use Rattle.runs.specs.Running.{typeOf, worst, orZero, ended, response}
 use Rattle.runs.specs.Journal.{Answer, openingAnswer, journal, answers}
 use Rattle.simulation.specs.Simulated.{simulationVerdict}
 use Rattle.slack.specs.declared.Slacks.{Slacks}
-use Rattle.slack.specs.Margins.{slackAt, slacksOf}
-use Rattle.worked_examples.specs.PlanA.{planOne, planDue, planA, fiveEntries, orderA, orderB}
+use Rattle.slack.specs.Margins.{slackAt, slacksOf, leastSlack, greatestSlack}
+use Rattle.worked_examples.specs.PlanA.{planOne, planLong, planDue, planA, fiveEntries, orderA, orderB}
 
 -- the starts by task number, and the response
 unfoldable pub run : Plan → Constraint → (ℕ → ℕ) → List ℕ
@@ -66,6 +66,10 @@ margins deadlines =
     let s = slacksOf (planDue deadlines) orderA in
     cond (s .any) 1 0 ∷ over (s .least) ++ s .task ∷ marginsOf s 5
 
+-- what the check says to this worst time of task 4
+unfoldable pub lasting : ℕ → List ℕ
+lasting worst = check (planLong worst) orderA
+
 -- what the check says to these deadlines of task 4 and of number 5, which is absent
 unfoldable pub due : ℕ → ℕ → List ℕ
 due d absent = check (planDue (0 ∷ 0 ∷ 0 ∷ 0 ∷ d ∷ absent ∷ [])) orderA
@@ -79,15 +83,22 @@ pub record Row : Type 0 where
 abbrev pub row : List ℕ → List ℕ → Row
 row computed stated = record { computed = computed; stated = stated }
 
--- margins on plan A: late by one, just in time and early; equal ones, and tasks without deadline; none; and what 8 covers
--- (document 02, 2)
+-- times and deadlines up to their limits and above, a deadline of an absent task; then what follows from the limits: the last
+-- instant, the least and the greatest margin (document 02, 4)
+unfoldable pub limitTable : List Row
+limitTable =
+    row (lasting 65536 ++ lasting 1000000 ++ lasting 1000001) (0 ∷ 0 ∷ 0 ∷ 0 ∷ 8 ∷ 0 ∷ [])
+    ∷ row (due 65536 0 ++ due 1000000 0 ++ due 1000001 0 ++ due 1000000 1) (0 ∷ 0 ∷ 0 ∷ 0 ∷ 8 ∷ 0 ∷ 8 ∷ 0 ∷ [])
+    ∷ row (lastInstant ∷ over leastSlack ++ over greatestSlack) (64000000 ∷ 0 ∷ 63999999 ∷ 999999 ∷ 0 ∷ [])
+    ∷ []
+
+-- margins on plan A: late by one, just in time and early; equal ones, and tasks without deadline; none (document 02, 2)
 unfoldable pub marginTable : List Row
 marginTable =
     row (margins (3 ∷ 5 ∷ 5 ∷ 0 ∷ 9 ∷ 0 ∷ [])) (1 ∷ 0 ∷ 1 ∷ 2 ∷ 1 ∷ 0 ∷ 0 ∷ 0 ∷ 0 ∷ 1 ∷ 0 ∷ 0 ∷ 1 ∷ 0 ∷ [])
     ∷ row (margins (0 ∷ 7 ∷ 0 ∷ 10 ∷ 0 ∷ 0 ∷ [])) (1 ∷ 2 ∷ 0 ∷ 1 ∷ 0 ∷ 0 ∷ 2 ∷ 0 ∷ 0 ∷ 0 ∷ 2 ∷ 0 ∷ 0 ∷ 0 ∷ [])
     ∷ row (margins (replicate 6 0)) (replicate 14 0)
-    ∷ row (due 65535 0 ++ due 65536 0 ++ due 65535 1) (0 ∷ 0 ∷ 8 ∷ 0 ∷ 8 ∷ 0 ∷ [])
-    ∷ []
+    ∷ limitTable
 
 unfoldable pub table : List Row
 table =

@@ -1,0 +1,86 @@
+//! The cases of answers that are counted besides all answers with their number.
+use crate::edges;
+
+/// A number, and what is so in some of the answers with it.
+pub type Case = (u64, &'static str);
+
+/// A report names a task before its best time.
+pub const EARLY_REPORT: Case = (0, "before best");
+/// The task has run the longest time that a task may have; it is reported, or not.
+pub const LONGEST_REPORT: Case = (0, "after the longest time");
+pub const LONGEST_OVERRUN: Case = (16, "after the longest time");
+
+pub const TIME_BELOW_BEST: Case = (0, "below best");
+pub const TIME_OF_0: Case = (18, "for 0");
+pub const TIME_ABOVE_WORST: Case = (18, "above worst");
+/// The worst time is the longest.
+pub const TIME_ABOVE_LONGEST: Case = (18, "for one above the longest");
+
+/// Of times that a simulation or timetable is given.
+pub const TIMES: [Case; 4] = [TIME_BELOW_BEST, TIME_OF_0, TIME_ABOVE_WORST, TIME_ABOVE_LONGEST];
+
+/// For each of `edges::TIMES` or `edges::DEADLINES`: it is among the numbers that are accepted.
+macro_rules! cases_of_edges {
+    ($what:literal) => {
+        [
+            (0, concat!($what, " of 1")),
+            (0, concat!($what, " of 16 bits")),
+            (0, concat!($what, " one above 16 bits")),
+            (0, concat!($what, " one below the greatest")),
+            (0, concat!($what, " that is the greatest")),
+        ]
+    };
+}
+
+/// Of the times and deadlines that are read.
+pub const READ_EDGES: [[Case; edges::TIMES.len()]; 3] =
+    [cases_of_edges!("best"), cases_of_edges!("worst"), cases_of_edges!("deadline")];
+
+/// Of accepted times that a simulation or timetable is given.
+pub const TIME_EDGES: [Case; edges::TIMES.len()] = cases_of_edges!("time");
+
+/// For each of `edges::INSTANTS`, with a task unfinished and with all finished. Nothing but the
+/// instant is wrong with the state.
+pub const INSTANTS: [[Case; 2]; edges::INSTANTS.len()] = [
+    [(0, "unfinished after times of 16 bits"), (13, "after times of 16 bits")],
+    [(0, "unfinished before the last instant"), (13, "before the last instant")],
+    [(12, "unfinished at the last instant"), (13, "at the last instant")],
+    [(12, "unfinished after the last instant"), (12, "finished after the last instant")],
+];
+
+/// No timetable needs more bytes; it has as many, or one too few.
+pub const LONGEST_WRITTEN: Case = (0, "longest timetable");
+pub const LONGEST_REFUSED: Case = (19, "a byte short of the longest timetable");
+
+pub const TIMETABLES: [Case; 2] = [LONGEST_WRITTEN, LONGEST_REFUSED];
+
+/// Nothing else is wrong with the plan.
+pub(crate) const ABOVE: &str = "for a deadline one above";
+pub(crate) const ABSENT: &str = "for a deadline of an absent task";
+pub(crate) const LONG: &str = "for a time one above";
+pub const DEADLINE_ABOVE: Case = (8, ABOVE);
+pub const DEADLINE_ABSENT: Case = (8, ABSENT);
+pub const TIME_ABOVE: Case = (8, LONG);
+pub const UNSOUND_ABOVE: Case = (12, ABOVE);
+pub const UNSOUND_ABSENT: Case = (12, ABSENT);
+pub const UNSOUND_LONG: Case = (12, LONG);
+
+/// Of a plan with wrong deadlines or times.
+pub const FAULTS: [Case; 3] = [DEADLINE_ABOVE, DEADLINE_ABSENT, TIME_ABOVE];
+
+pub const NO_DEADLINES: Case = (0, "no deadlines");
+pub const LEAST_BELOW_ZERO: Case = (0, "least below zero");
+pub const LEAST_ZERO: Case = (0, "least zero");
+pub const LEAST_ABOVE_ZERO: Case = (0, "least above zero");
+pub const LEAST_OF_SEVERAL: Case = (0, "least of several");
+/// The 0 of a task without deadline is less than all margins.
+pub const LESS_WITHOUT: Case = (0, "less without deadline");
+pub const LEAST_OF_ALL: Case = (0, "least of all plans");
+/// Every task with a deadline has it.
+pub const GREATEST_OF_ALL: Case = (0, "greatest of all plans");
+
+/// Of accepted margins.
+pub const MARGINS: [Case; 8] = [
+    NO_DEADLINES, LEAST_BELOW_ZERO, LEAST_ZERO, LEAST_ABOVE_ZERO, LEAST_OF_SEVERAL, LESS_WITHOUT,
+    LEAST_OF_ALL, GREATEST_OF_ALL,
+];
