@@ -29,7 +29,7 @@ longestTime = 1000000
 abbrev pub latestDeadline : ℕ
 latestDeadline = 1000000
 
--- no run is longer: every task one after the other, each with the longest time
+-- "64,000,000" (document 02, 4), and no run is longer: every task one after the other, each with the longest time
 abbrev pub lastInstant : ℕ
 lastInstant = mostTasks * longestTime
 

@@ -57,7 +57,7 @@ number (Choice t k) i = getD (t ∷ k ∷ []) i 0
 
 -- ---- the faults of a line
 
--- type 0 to 7, count 1 to 8, task 0 to 63, times from 1 up to the longest
+-- type 0 to 7, count 1 to 8, task 0 to 63, times from 1 to the longest
 abbrev pub isType : ℕ → Bool
 isType k = ltb k mostTypes
 
@@ -67,7 +67,7 @@ isTask t = ltb t mostTasks
 abbrev pub isTime : ℕ → Bool
 isTime x = between 1 x longestTime
 
--- "instant from 1" (document 02, 2) up to the latest
+-- the "instant from 1" (document 02, 2) to the latest deadline
 abbrev pub isDeadline : ℕ → Bool
 isDeadline x = between 1 x latestDeadline
 

@@ -33,7 +33,8 @@ fn put_digit(x: u32, power: u32, text: &mut [u8; ROOM], n: usize) -> usize
     put_byte(last_digit(x / power), text, n)
 }
 
-fn put_number(x: u32, text: &mut [u8; ROOM], n: usize) -> usize
+// The digits of x, from the greatest power of ten that a number has.
+fn put_digits(x: u32, text: &mut [u8; ROOM], n: usize) -> usize
     ensures { λ r. ⌜ length (now (text .exit)) ≡ length (now (text .entry)) ⌝ }
 {
     let mut power: u32 = 1000000000;
@@ -45,14 +46,15 @@ fn put_number(x: u32, text: &mut [u8; ROOM], n: usize) -> usize
     at
 }
 
-fn put_named(b: u8, text: &mut [u8; ROOM], n: usize) -> usize
+// The limit that a letter stands for, or the byte as it is.
+fn put_letter(b: u8, text: &mut [u8; ROOM], n: usize) -> usize
     ensures { λ r. ⌜ length (now (text .exit)) ≡ length (now (text .entry)) ⌝ }
 {
     if b == b't' {
-        return put_number(LONGEST_TIME, text, n);
+        return put_digits(LONGEST_TIME, text, n);
     }
     if b == b'l' {
-        return put_number(LATEST_DEADLINE, text, n);
+        return put_digits(LATEST_DEADLINE, text, n);
     }
     put_byte(b, text, n)
 }
@@ -64,7 +66,7 @@ pub fn with_limits(s: &[u8], text: &mut [u8; ROOM]) -> usize
     let mut n = 0;
     let mut i = 0;
     while i < s.len() {
-        n = put_named(s[i], text, n);
+        n = put_letter(s[i], text, n);
         i += 1;
     }
     n

@@ -16,8 +16,8 @@ times t0 t1 t2 t3 t3′ t4 =
 -- plan A with so many units of type 1, a worst time of task 4, and deadlines of its tasks and of number 5, which is absent
 -- (document 02, 2)
 unfoldable pub planWith : ℕ → ℕ → List ℕ → Plan
-planWith units worst deadlines =
-    planOf 2 (1 ∷ units ∷ replicate 6 0) 5 (times 1 1 2 2 1 1) (times 2 3 4 5 3 worst) (0 ∷ 0 ∷ 1 ∷ 2 ∷ 4 ∷ replicate 59 0)
+planWith units time deadlines =
+    planOf 2 (1 ∷ units ∷ replicate 6 0) 5 (times 1 1 2 2 1 1) (times 2 3 4 5 3 time) (0 ∷ 0 ∷ 1 ∷ 2 ∷ 4 ∷ replicate 59 0)
     (deadlines ++ replicate 58 0)
 
 -- with one unit, with another worst time, or with deadlines
@@ -25,7 +25,7 @@ unfoldable pub planOne : Plan
 planOne = planWith 1 2 (replicate 6 0)
 
 unfoldable pub planLong : ℕ → Plan
-planLong worst = planWith 2 worst (replicate 6 0)
+planLong time = planWith 2 time (replicate 6 0)
 
 unfoldable pub planDue : List ℕ → Plan
 planDue = planWith 2 2

@@ -68,7 +68,7 @@ margins deadlines =
 
 -- what the check says to this worst time of task 4
 unfoldable pub lasting : ℕ → List ℕ
-lasting worst = check (planLong worst) orderA
+lasting time = check (planLong time) orderA
 
 -- what the check says to these deadlines of task 4 and of number 5, which is absent
 unfoldable pub due : ℕ → ℕ → List ℕ

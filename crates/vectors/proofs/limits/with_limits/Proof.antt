@@ -1,7 +1,7 @@
 -- `vectors::limits::with_limits` is safe and ends. The measure is what is left of the text. Assumes nothing.
+use mathlib.Core.Path.{_≡_}
 use Prim.Native.Nat.{_-_}
 use lib.ListN.{length}
-use mathlib.Core.Path.{_≡_}
 use borrow.Author.Needs.{needs}
 use Rattle.vectors.proofs.limits.with_limits.Statement.{statement}
 use Rattle.vectors.proofs.limits.with_limits.Tie as tie
