@@ -7,13 +7,19 @@
 mod calls;
 mod measure;
 mod plans;
+mod program;
 
-use calls::{Answers, Input};
+use calls::{Answers, Input, Run, Slacks, Text, Ticked, Verdict};
 use plans::Shape;
+use program::Program;
 use rival::fast;
 use rival::limits::{LATEST_DEADLINE, LONGEST_TEXT, LONGEST_TIME, TASKS};
+use rival::plan::Refusal;
 use rival::simulate::worst_times;
 use std::hint::black_box;
+use std::process::Command;
+
+const TWICE: Option<f64> = Some(2.0);
 
 /// Prints the lines and keeps those that miss their target.
 struct Table {
@@ -31,51 +37,58 @@ impl Table {
     }
 
     /// The answers are the same; what they took is measured, if anything is.
-    fn line(&mut self, name: &str, measure: impl FnOnce() -> (f64, f64), target: f64) {
+    fn line(
+        &mut self, name: &str, measure: impl FnOnce() -> (f64, f64), target: Option<f64>,
+    ) {
         if !self.timed {
             println!("the same answers: {name}");
             return;
         }
         let (ours, rivals) = measure();
         let ratio = ours / rivals;
-        println!("{name:<44}{ours:>12.1}{rivals:>12.1}{ratio:>8.2}{target:>8.1}");
-        if ratio > target {
-            self.missed.push(format!("{name}: {ratio:.2}, target {target:.1}"));
+        let shown = target.map_or("-".to_string(), |target| format!("{target:.1}"));
+        println!("{name:<44}{ours:>12.1}{rivals:>12.1}{ratio:>8.2}{shown:>8}");
+        if target.is_some_and(|target| ratio > target) {
+            self.missed.push(format!("{name}: {ratio:.2}, target {shown}"));
         }
     }
+}
+
+fn assert_same<A: PartialEq>(name: &str, ours: A, rivals: A) {
+    assert!(ours == rivals, "{name}: the answers differ");
 }
 
 fn read(table: &mut Table, name: &str, shape: &Shape) {
     let text = shape.text();
     let (plan, constraint) = fast::read(&text).expect("a text that is read");
-    assert!(Input::new(&plan, &constraint).is(&calls::read(&text)), "{name}: the plans differ");
+    assert_same(name, calls::read(&text), Text::accepted(Input::new(&plan, &constraint)));
     let ours = || calls::read(black_box(&text));
     let rivals = || fast::read(black_box(&text));
-    table.line(name, || measure::by_turns(ours, rivals), 2.0);
+    table.line(name, || measure::by_turns(ours, rivals), TWICE);
 }
 
 fn check(table: &mut Table, name: &str, shape: &Shape) {
     let (plan, constraint) = shape.plan();
     let input = Input::new(&plan, &constraint);
-    assert_eq!(calls::check(&input).number, 0);
-    assert_eq!(fast::check(&plan, &constraint), Ok(()));
+    fast::check(&plan, &constraint).expect("a sound plan");
+    assert_same(name, calls::check(&input), Verdict::accepted());
     let ours = || calls::check(black_box(&input));
     let rivals = || fast::check(black_box(&plan), black_box(&constraint));
-    table.line(name, || measure::by_turns(ours, rivals), 2.0);
+    table.line(name, || measure::by_turns(ours, rivals), TWICE);
 }
 
 fn simulate(table: &mut Table, name: &str, shape: &Shape) {
     let (plan, constraint) = shape.plan();
     let input = Input::new(&plan, &constraint);
     let times = worst_times(&plan, &constraint);
-    let run = fast::simulate(&plan, &constraint, &times);
-    assert_eq!(run, Ok(calls::simulate(&input, &times)));
+    let run = fast::simulate(&plan, &constraint, &times).expect("legal times");
+    assert_same(name, calls::simulate(&input, &times), Run::accepted(run));
     let ours = || calls::simulate(black_box(&input), black_box(&times));
     let rivals = || {
         let (plan, constraint) = (black_box(&plan), black_box(&constraint));
         fast::simulate(plan, constraint, black_box(&times))
     };
-    table.line(name, || measure::by_turns(ours, rivals), 2.0);
+    table.line(name, || measure::by_turns(ours, rivals), TWICE);
 }
 
 /// Every task has a deadline; some are late.
@@ -85,12 +98,12 @@ fn margins(table: &mut Table, name: &str, shape: &Shape) {
         plan.deadlines[t] = LATEST_DEADLINE - 40 * t as u32;
     }
     let input = Input::new(&plan, &constraint);
-    let found = fast::margins(&plan, &constraint);
-    assert!(found.as_ref().is_ok_and(|margins| margins.least < 0));
-    assert_eq!(found, Ok(calls::margins(&input)));
+    let found = fast::margins(&plan, &constraint).expect("a sound plan");
+    assert!(found.least < 0);
+    assert_same(name, calls::margins(&input), Slacks::accepted(found));
     let ours = || calls::margins(black_box(&input));
     let rivals = || fast::margins(black_box(&plan), black_box(&constraint));
-    table.line(name, || measure::by_turns(ours, rivals), 2.0);
+    table.line(name, || measure::by_turns(ours, rivals), TWICE);
 }
 
 /// The answers are lent again and again and are not cleared in between: every
@@ -111,14 +124,50 @@ fn replay(table: &mut Table, name: &str, shape: &Shape) {
     let (mut a, mut b) = (Answers::unwritten(ticks), Answers::unwritten(ticks));
     let state = rivals(&mut b);
     assert_eq!((state.instant as usize, state.finished), (ticks, u64::MAX));
-    assert_eq!(ours(&mut a), state.instant);
-    assert!(a == b, "{name}: the answers differ");
+    let started = fast::start(&plan, &constraint).1.expect("a sound plan");
+    assert_same(name, ours(&mut a), Ticked::accepted(started, state));
+    assert_same(name, &a, &b);
     assert!(a.numbers.iter().all(|&number| number == 0), "{name}: a report is refused");
     let one_tick = || {
         let (ours, rivals) = measure::by_turns(|| ours(&mut a), || rivals(&mut b));
         (ours / ticks as f64, rivals / ticks as f64)
     };
-    table.line(&format!("{name}, one of {ticks} ticks"), one_tick, 2.0);
+    table.line(&format!("{name}, one of {ticks} ticks"), one_tick, TWICE);
+}
+
+/// A program in another language, which ticks once for each report, against the rival's ticks.
+fn ticks(
+    table: &mut Table, name: &str, command: &mut Command, rounds: usize, target: Option<f64>,
+) {
+    let (plan, constraint) = plans::MIXED.plan();
+    let reports = plans::reports(&plan, &constraint);
+    let rivals = |answers: &mut [Result<u64, Refusal>]| {
+        let (mut state, _) = fast::start(black_box(&plan), black_box(&constraint));
+        for (&report, answer) in black_box(&reports).iter().zip(black_box(answers)) {
+            (state, *answer) = fast::tick(state, report);
+        }
+        state
+    };
+    let mut answers = vec![Ok(u64::MAX); reports.len()];
+    assert_eq!(rivals(&mut answers).finished, u64::MAX);
+    let accepted = |answer: &Result<u64, _>| format!("0\t0\t{}", answer.expect("a legal report"));
+    let mut program = Program::begin(command, &plans::MIXED.text(), &reports);
+    assert_same(name, program.answers(), answers.iter().map(accepted).collect());
+    let one_tick = || {
+        let run = measure::batches(|| rivals(&mut answers));
+        let (ours, rivals) = measure::least(rounds, || program.round(), run);
+        (ours, rivals / reports.len() as f64)
+    };
+    table.line(name, one_tick, target);
+    program.end();
+}
+
+/// The module of bindings/python, with the library that was built here.
+fn python() -> Command {
+    let mut command = Command::new("python3");
+    command.args(["-B", "benchmark/tick.py"]).env("PYTHONPATH", "bindings/python");
+    command.env_remove("BENCHPLAN_LIBRARY");
+    command
 }
 
 /// Ours against ours: long times must cost no more than short ones.
@@ -127,9 +176,12 @@ fn long_times(table: &mut Table, name: &str, shape: &Shape) {
     let input = Input::new(&plan, &constraint);
     let run = |times: &[u32; TASKS]| calls::simulate(black_box(&input), black_box(times));
     let (short, long) = ([1; TASKS], [LONGEST_TIME; TASKS]);
-    assert!(run(&short).response > 0);
+    for times in [&short, &long] {
+        let rivals = fast::simulate(&plan, &constraint, times).expect("legal times");
+        assert_same(name, run(times), Run::accepted(rivals));
+    }
     assert_eq!(run(&short).response * LONGEST_TIME, run(&long).response);
-    table.line(name, || measure::by_turns(|| run(&long), || run(&short)), 1.2);
+    table.line(name, || measure::by_turns(|| run(&long), || run(&short)), Some(1.2));
 }
 
 fn main() {
@@ -154,6 +206,8 @@ fn main() {
     replay(t, "replay a chain", &plans::CHAIN);
     replay(t, "replay all at once", &plans::WIDE);
     replay(t, "replay a mixture", &plans::MIXED);
+    ticks(t, "a tick from C", &mut Command::new("target/tick"), measure::ROUNDS, Some(2.5));
+    ticks(t, "a tick from Python", &mut python(), 31, None);
     t.head(["simulation, ours against ours", &format!("of {LONGEST_TIME}"), "of 1", "", ""]);
     long_times(t, "times, the largest plan", &plans::ANY_TIMES);
     long_times(t, "times, few arrows", &plans::ANY_TIMES_FEW_ARROWS);

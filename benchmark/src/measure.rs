@@ -2,7 +2,7 @@
 use std::hint::black_box;
 use std::time::{Duration, Instant};
 
-const ROUNDS: usize = 101;
+pub const ROUNDS: usize = 101;
 const BATCH: Duration = Duration::from_millis(2);
 
 /// The answer is lent to `black_box` whole, so that all of it must be worked out.
@@ -23,27 +23,32 @@ fn calls_in_a_batch<A>(work: &mut impl FnMut() -> A) -> u32 {
     calls
 }
 
-fn least(figures: &[f64]) -> f64 {
-    figures.iter().copied().fold(f64::INFINITY, f64::min)
+/// A batch each time it is called: the nanoseconds of one call of the work.
+pub fn batches<A>(mut work: impl FnMut() -> A) -> impl FnMut() -> f64 {
+    let calls = calls_in_a_batch(&mut work);
+    move || time(calls, &mut work).as_nanos() as f64 / f64::from(calls)
 }
 
-/// The nanoseconds of one call of each, from the least disturbed round.
-/// Neither always goes first.
-pub fn by_turns<A, B>(
-    mut ours: impl FnMut() -> A,
-    mut rivals: impl FnMut() -> B,
+/// Both figures from the least disturbed of these many rounds. Neither always goes first.
+pub fn least(
+    rounds: usize,
+    mut ours: impl FnMut() -> f64,
+    mut rivals: impl FnMut() -> f64,
 ) -> (f64, f64) {
-    let calls = (calls_in_a_batch(&mut ours), calls_in_a_batch(&mut rivals));
-    let each = |elapsed: Duration, calls: u32| elapsed.as_nanos() as f64 / calls as f64;
-    let (mut a, mut b) = (Vec::new(), Vec::new());
-    for round in 0..ROUNDS {
+    let (mut a, mut b) = (f64::INFINITY, f64::INFINITY);
+    for round in 0..rounds {
         if round % 2 == 0 {
-            a.push(each(time(calls.0, &mut ours), calls.0));
+            a = a.min(ours());
         }
-        b.push(each(time(calls.1, &mut rivals), calls.1));
+        b = b.min(rivals());
         if round % 2 == 1 {
-            a.push(each(time(calls.0, &mut ours), calls.0));
+            a = a.min(ours());
         }
     }
-    (least(&a), least(&b))
+    (a, b)
+}
+
+/// The nanoseconds of one call of each.
+pub fn by_turns<A, B>(ours: impl FnMut() -> A, rivals: impl FnMut() -> B) -> (f64, f64) {
+    least(ROUNDS, batches(ours), batches(rivals))
 }

@@ -29,6 +29,7 @@ pub struct State {
 }
 
 // What start and a tick answer: a refusal's number and place, or 0 and 0; the set of tasks just started; the state.
+#[repr(C)]
 pub struct Ticked {
     pub number: u32,
     pub place: usize,

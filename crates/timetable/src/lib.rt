@@ -27,6 +27,7 @@ pub const LONGEST_TIMETABLE: usize = 1448;
 pub const SLACK_ROOM: usize = 1935;
 
 // The bytes written, with number and place 0; or a refusal's number and place.
+#[repr(C)]
 pub struct Written {
     pub number: u32,
     pub place: usize,

@@ -1,0 +1,254 @@
+"""The verified dispatcher for programs in Python: include/benchplan.h by ctypes, with the standard library alone.
+
+    import benchplan
+    plan = benchplan.read(open("examples/plan-a.txt", "rb").read())
+    print(plan.bound().response)
+    state, begin = plan.start()
+    state, begin = state.tick({0})
+
+A refusal is the exception Refused, with `number`, `place` and the user guide's sentence. Plans and states never change: a refused tick
+leaves the caller with the state that it had. Build the shared object with ./build-library. Where it is not in this checkout's
+target/lib, the environment variable BENCHPLAN_LIBRARY is its path.
+"""
+import ctypes
+import os
+import pathlib
+from collections import namedtuple
+from ctypes import POINTER, byref, c_bool, c_int64, c_size_t, c_uint8, c_uint32, c_uint64
+
+VERSION = 401
+TASKS = 64
+TIMETABLE_MOST = 1448
+ANSWER_MOST = 1448
+
+SENTENCES = {
+    1: "the text has more than 32,768 bytes",
+    2: "not one of the five line forms",
+    3: "a number out of range: type above 7, count 0 or above 8, task above 63, time or deadline 0 or above 1,000,000",
+    4: "worst below best, or an arrow from a task to itself",
+    5: "a kind of line after a later kind",
+    6: "a U type that is not the next, a T type without U line, an A, D or C task without T line",
+    7: "a pair of task and type, an arrow, the D line of a task or its C line for the second time",
+    8: "the plan breaks a rule",
+    9: "the order does not name every task once",
+    10: "a task is to run on a type that it cannot use, or that the plan does not have",
+    11: "a task stands before one that it waits for",
+    12: "the state is not one that start and tick make; among others its instant is above 64,000,000, or is that with a task unfinished",
+    13: "all tasks are finished",
+    14: "a reported task is not running",
+    16: "a running task is not reported and has now run its worst time",
+    17: "the count of times is not the number of tasks",
+    18: "a time is 0 or above the worst of the chosen type",
+    19: "a lent buffer is too short",
+}
+
+
+class Refused(Exception):
+    """A refusal: its number, its place, and the user guide's sentence for the number."""
+
+    def __init__(self, number, place):
+        self.number, self.place, self.sentence = number, place, SENTENCES[number]
+        super().__init__(f"refused {number} at {place}: {self.sentence}")
+
+
+# The structs of benchplan.h, field by field.
+
+
+class _Plan(ctypes.Structure):
+    _fields_ = [("words", c_uint64 * 614)]
+
+
+class _Constraint(ctypes.Structure):
+    _fields_ = [("words", c_uint64 * 129)]
+
+
+class _State(ctypes.Structure):
+    _fields_ = [("words", c_uint64 * 810)]
+
+
+_VERDICT = [("number", c_uint32), ("place", c_size_t)]
+
+
+class _Text(ctypes.Structure):
+    _fields_ = _VERDICT + [("plan", _Plan), ("constraint", _Constraint)]
+
+
+class _Verdict(ctypes.Structure):
+    _fields_ = _VERDICT
+
+
+class _Run(ctypes.Structure):
+    _fields_ = _VERDICT + [("response", c_uint32), ("starts", c_uint32 * TASKS), ("finishes", c_uint32 * TASKS)]
+
+
+class _Written(ctypes.Structure):
+    _fields_ = _VERDICT + [("written", c_size_t)]
+
+
+class _Slacks(ctypes.Structure):
+    _fields_ = _VERDICT + [("any", c_bool), ("least", c_int64), ("task", c_size_t), ("slacks", c_int64 * TASKS)]
+
+
+class _Ticked(ctypes.Structure):
+    _fields_ = _VERDICT + [("started", c_uint64), ("state", _State)]
+
+
+_BYTES = [POINTER(c_uint8), c_size_t]
+_TIMES = [POINTER(c_uint32), c_size_t]
+_SETS = [POINTER(c_uint64), c_size_t]
+_PLACES = [POINTER(c_size_t), c_size_t]
+_PLAN = [_Plan, _Constraint]
+_CALLS = {
+    "bench_read": (_Text, _BYTES),
+    "bench_check": (_Verdict, _PLAN),
+    "bench_simulate": (_Run, _PLAN + _TIMES),
+    "bench_bound": (_Run, _PLAN),
+    "bench_timetable": (_Written, _PLAN + _TIMES + _BYTES),
+    "bench_worst_timetable": (_Written, _PLAN + _BYTES),
+    "bench_margins": (_Slacks, _PLAN),
+    "bench_start": (_Ticked, _PLAN),
+    "bench_tick": (_Ticked, [_State, c_uint64]),
+    "bench_replay": (_Ticked, _PLAN + _SETS + _TIMES + _PLACES + _SETS),
+    "bench_answer": (c_size_t, _BYTES + [POINTER(c_uint8 * ANSWER_MOST)]),
+}
+
+
+def _load():
+    """The shared object of this module's version: structs may differ from one version to the next."""
+    top = pathlib.Path(__file__).resolve().parents[2]
+    path = os.environ.get("BENCHPLAN_LIBRARY") or top / "target" / "lib" / f"libbenchplan.so.{VERSION}"
+    if not os.path.exists(path):
+        raise ImportError(f"{path} is not there: ./build-library builds it, or set BENCHPLAN_LIBRARY to its path")
+    library = ctypes.CDLL(str(path))
+    for name, (answer, arguments) in _CALLS.items():
+        call = getattr(library, name)
+        call.restype, call.argtypes = answer, arguments
+    return library
+
+
+_library = _load()
+
+
+def _accepted(answer):
+    if answer.number:
+        raise Refused(answer.number, answer.place)
+    return answer
+
+
+def _lent(kind, values):
+    """An array with its length, as the library takes them; never NULL."""
+    return (kind * max(1, len(values)))(*values), len(values)
+
+
+def _lent_text(text):
+    """The same for bytes."""
+    text = bytes(memoryview(text))
+    return (c_uint8 * (len(text) + 1)).from_buffer_copy(text + b"\0"), len(text)
+
+
+def _lent_times(times):
+    """The same for times. One that does not fit 32 bits goes to the nearest end of them, where 18 refuses it, too."""
+    return _lent(c_uint32, [min(max(time, 0), 0xFFFFFFFF) for time in times])
+
+
+def _set_of(tasks):
+    """Tasks as a word, bit t for task t."""
+    word = 0
+    for task in tasks:
+        if not 0 <= task < TASKS:
+            raise ValueError(f"no task has the number {task}")
+        word |= 1 << task
+    return word
+
+
+def _tasks_of(word):
+    return frozenset(task for task in range(word.bit_length()) if word >> task & 1)
+
+
+Run = namedtuple("Run", "response starts finishes")
+Margins = namedtuple("Margins", "any least task slacks")
+Ticked = namedtuple("Ticked", "number place started")
+Replayed = namedtuple("Replayed", "started ticks state")
+
+
+def read(text):
+    """The plan of a text (bytes), with its constraint; 1 to 7."""
+    answer = _accepted(_library.bench_read(*_lent_text(text)))
+    return Plan(answer.plan, answer.constraint)
+
+
+def answer(text):
+    """The bytes that ./benchplan prints for a text (bytes): its timetable of worst times, or the line of its refusal."""
+    buffer = (c_uint8 * ANSWER_MOST)()
+    written = _library.bench_answer(*_lent_text(text), byref(buffer))
+    return bytes(buffer[:written])
+
+
+class Plan:
+    """A plan with its constraint, as `read` gives it. Every call but `check` may refuse with 8 to 11, as `check` does."""
+
+    def __init__(self, plan, constraint):
+        self._plan, self._constraint = plan, constraint
+
+    def check(self):
+        """Nothing, or 8 to 11."""
+        _accepted(_library.bench_check(self._plan, self._constraint))
+
+    def simulate(self, times):
+        """The run with these times, one for each task, by task number; 17, 18."""
+        return _run(_library.bench_simulate(self._plan, self._constraint, *_lent_times(times)))
+
+    def bound(self):
+        """The run with worst times: its response is the bound."""
+        return _run(_library.bench_bound(self._plan, self._constraint))
+
+    def timetable(self, times, room=TIMETABLE_MOST):
+        """The timetable (bytes) of the run with these times; 17, 18, and 19 if it needs more than `room` bytes."""
+        buffer, length = _lent_text(bytes(room))
+        call = _library.bench_timetable
+        return _written(call(self._plan, self._constraint, *_lent_times(times), buffer, length), buffer)
+
+    def worst_timetable(self, room=TIMETABLE_MOST):
+        """The timetable (bytes) of the run with worst times; 19 if it needs more than `room` bytes."""
+        buffer, length = _lent_text(bytes(room))
+        return _written(_library.bench_worst_timetable(self._plan, self._constraint, buffer, length), buffer)
+
+    def margins(self):
+        """What is to spare of each deadline with worst times, by task number; the least, and its task, if `any` task has a deadline."""
+        answer = _accepted(_library.bench_margins(self._plan, self._constraint))
+        return Margins(answer.any, answer.least, answer.task, list(answer.slacks))
+
+    def start(self):
+        """The state at instant 0, and the set of tasks to begin."""
+        answer = _accepted(_library.bench_start(self._plan, self._constraint))
+        return State(answer.state), _tasks_of(answer.started)
+
+    def replay(self, reports):
+        """Start and a tick for each report: the tasks that start began, what each tick answered, and the last state."""
+        words, count = _lent(c_uint64, [_set_of(report) for report in reports])
+        numbers, places, sets = (_lent(kind, [0] * count) for kind in (c_uint32, c_size_t, c_uint64))
+        call = _library.bench_replay
+        answer = _accepted(call(self._plan, self._constraint, words, count, *numbers, *places, *sets))
+        ticks = zip(numbers[0][:count], places[0][:count], map(_tasks_of, sets[0][:count]))
+        return Replayed(_tasks_of(answer.started), [Ticked(*tick) for tick in ticks], State(answer.state))
+
+
+class State:
+    """A run state, as `start` and `tick` give it."""
+
+    def __init__(self, state):
+        self._state = state
+
+    def tick(self, report):
+        """The state one instant on, with the reported tasks finished, and the set of tasks to begin; 12, 13, 14, 16."""
+        answer = _accepted(_library.bench_tick(self._state, _set_of(report)))
+        return State(answer.state), _tasks_of(answer.started)
+
+
+def _run(answer):
+    _accepted(answer)
+    return Run(answer.response, list(answer.starts), list(answer.finishes))
+
+
+def _written(answer, buffer):
+    return bytes(buffer[: _accepted(answer).written])

@@ -1,0 +1,99 @@
+/* benchplan.h: the verified dispatcher for programs in C99 and C++, on x86-64 Linux. Built by ./build-library; docs/USER-GUIDE.md, "A bench
+   program", tells how to use it. Every call keeps nothing, takes no heap and no lock, and comes to its end; threads may call at once.
+
+   An answer begins with `number`: 0, accepted; or the number of a refusal, with its place, zeros in all fields after it, and no lent byte
+   changed. A refused tick gives its state back as it was. A set of tasks is 64 bits, bit t for task t.
+
+   The caller's duty, as in any C library: a pointer leads to as many elements as its length says, is aligned for them, is not NULL, not
+   even with length 0, and nothing that a call writes overlaps anything else that it is handed. What breaks this is not noticed. */
+#ifndef BENCHPLAN_H
+#define BENCHPLAN_H
+#include <stdbool.h>
+#include <stddef.h>
+#include <stdint.h>
+#ifdef __cplusplus
+extern "C" {
+#endif
+
+#define BENCHPLAN_VERSION 401      /* 0.4.1: ten thousands, hundreds, ones. Structs may differ from one version to the next: compile anew. */
+#define BENCH_TASKS 64
+#define BENCH_TYPES 8
+#define BENCH_UNITS 8              /* of each type */
+#define BENCH_LONGEST_TIME 1000000 /* in ticks; the latest deadline, too */
+#define BENCH_LAST_INSTANT 64000000
+#define BENCH_TEXT_MOST 32768      /* bytes of a plan text */
+#define BENCH_TIMETABLE_MOST 1448  /* bytes of a timetable */
+#define BENCH_ANSWER_MOST 1448     /* bytes of an answer of bench_answer */
+#define BENCH_STACK_MOST 65536     /* bytes of stack are enough for any call, its arguments and its answer: measured, not proved */
+
+enum bench_refusal {
+    BENCH_ACCEPTED = 0,
+    BENCH_TEXT_TOO_LONG = 1,  /* the text has more than 32,768 bytes */
+    BENCH_NO_LINE_FORM = 2,   /* not one of the five line forms */
+    BENCH_OUT_OF_RANGE = 3,   /* a number out of range */
+    BENCH_CONTRARY = 4,       /* worst below best, or an arrow from a task to itself */
+    BENCH_KIND_TOO_LATE = 5,  /* a kind of line after a later kind */
+    BENCH_NOT_KNOWN = 6,      /* a U type that is not the next, a T type without U line, an A, D or C task without T line */
+    BENCH_REPEATED = 7,       /* a pair of task and type, an arrow, the D line of a task or its C line for the second time */
+    BENCH_PLAN_RULE = 8,      /* the plan breaks a rule */
+    BENCH_NOT_EACH_ONCE = 9,  /* the order does not name every task once */
+    BENCH_NOT_USABLE = 10,    /* a task is to run on a type that it cannot use, or that the plan does not have */
+    BENCH_TOO_EARLY = 11,     /* a task stands before one that it waits for */
+    BENCH_UNSOUND_STATE = 12, /* the state is not one that start and tick make */
+    BENCH_RUN_OVER = 13,      /* all tasks are finished */
+    BENCH_NOT_RUNNING = 14,   /* a reported task is not running */
+    BENCH_OVERRUN = 16,       /* a running task is not reported and has now run its worst time */
+    BENCH_TIMES_COUNT = 17,   /* the count of times is not the number of tasks */
+    BENCH_TIME_RANGE = 18,    /* a time is 0 or above the worst of the chosen type */
+    BENCH_TOO_SHORT = 19      /* a lent buffer is too short */
+};
+
+/* Opaque: hand them on as they came. */
+typedef struct { uint64_t words[614]; } bench_plan;
+typedef struct { uint64_t words[129]; } bench_constraint;
+typedef struct { uint64_t words[810]; } bench_state;
+
+/* By task number: starts, finishes and slacks (margins; `least` is the least of them and `task` has it, if `any` task has a deadline). */
+typedef struct { uint32_t number; size_t place; bench_plan plan; bench_constraint constraint; } bench_text;
+typedef struct { uint32_t number; size_t place; } bench_verdict;
+typedef struct { uint32_t number; size_t place; uint32_t response, starts[BENCH_TASKS], finishes[BENCH_TASKS]; } bench_run;
+typedef struct { uint32_t number; size_t place, written; } bench_written;
+typedef struct { uint32_t number; size_t place; bool any; int64_t least; size_t task; int64_t slacks[BENCH_TASKS]; } bench_slacks;
+typedef struct { uint32_t number; size_t place; uint64_t started; bench_state state; } bench_ticked;
+
+#define BENCH_SIZE(type, bytes) typedef char type##_is_##bytes##_bytes[sizeof(type) == bytes ? 1 : -1]
+BENCH_SIZE(bench_plan, 4912); BENCH_SIZE(bench_constraint, 1032); BENCH_SIZE(bench_state, 6480);
+BENCH_SIZE(bench_text, 5960); BENCH_SIZE(bench_verdict, 16); BENCH_SIZE(bench_run, 536);
+BENCH_SIZE(bench_written, 24); BENCH_SIZE(bench_slacks, 552); BENCH_SIZE(bench_ticked, 6504);
+
+/* The plan of a text, and its check: 1 to 7, 8 to 11. Every other call that takes a plan checks it first. */
+bench_text bench_read(const uint8_t *text, size_t length);
+bench_verdict bench_check(bench_plan plan, bench_constraint constraint);
+
+/* A run with given times, one for each task (17, 18), and the run with worst times: its response is the bound. */
+bench_run bench_simulate(bench_plan plan, bench_constraint constraint, const uint32_t *times, size_t times_length);
+bench_run bench_bound(bench_plan plan, bench_constraint constraint);
+
+/* The same two runs as text, into a lent buffer (19: place bytes are needed); what is to spare of each deadline with worst times. */
+bench_written bench_timetable(bench_plan plan, bench_constraint constraint, const uint32_t *times, size_t times_length,
+                              uint8_t *buffer, size_t buffer_length);
+bench_written bench_worst_timetable(bench_plan plan, bench_constraint constraint, uint8_t *buffer, size_t buffer_length);
+bench_slacks bench_margins(bench_plan plan, bench_constraint constraint);
+
+/* A live run: the state and the tasks to begin at instant 0, then one instant on, with the reported tasks finished (12, 13, 14, 16). */
+bench_ticked bench_start(bench_plan plan, bench_constraint constraint);
+bench_ticked bench_tick(bench_state state, uint64_t report);
+
+/* Start and a tick for each report: `started` is what start began, `state` the last one; number, place and started set of each tick go to the
+   lent buffers, each at least as long as the reports (19: place entries are needed). */
+bench_ticked bench_replay(bench_plan plan, bench_constraint constraint, const uint64_t *reports, size_t reports_length,
+                          uint32_t *numbers, size_t numbers_length, size_t *places, size_t places_length,
+                          uint64_t *sets, size_t sets_length);
+
+/* From a plan text to what ./benchplan prints for it: the timetable of worst times, or the line of the refusal. Gives its bytes. */
+size_t bench_answer(const uint8_t *text, size_t length, uint8_t (*answer)[BENCH_ANSWER_MOST]);
+
+#ifdef __cplusplus
+}
+#endif
+#endif
