@@ -4,8 +4,9 @@
    An answer begins with `number`: 0, accepted; or the number of a refusal, with its place, zeros in all fields after it, and no lent byte
    changed. A refused tick gives its state back as it was. A set of tasks is 64 bits, bit t for task t.
 
-   The caller's duty, as in any C library: a pointer leads to as many elements as its length says, is aligned for them, is not NULL, not
-   even with length 0, and nothing that a call writes overlaps anything else that it is handed. What breaks this is not noticed. */
+   The caller's duty, as in any C library: a pointer leads to as many elements as its length says and is aligned for them, and nothing that a
+   call writes overlaps anything else that it is handed. NULL (with length 0, too), a length that is greater than the memory, or an unaligned
+   pointer is undefined behaviour: no refusal tells of it. */
 #ifndef BENCHPLAN_H
 #define BENCHPLAN_H
 #include <stdbool.h>
@@ -24,7 +25,7 @@ extern "C" {
 #define BENCH_TEXT_MOST 32768      /* bytes of a plan text */
 #define BENCH_TIMETABLE_MOST 1448  /* bytes of a timetable */
 #define BENCH_ANSWER_MOST 1448     /* bytes of an answer of bench_answer */
-#define BENCH_STACK_MOST 65536     /* bytes of stack are enough for any call, its arguments and its answer: measured, not proved */
+#define BENCH_STACK_MOST 65536     /* bytes of stack, enough for any call with its arguments and its answer: measured, not proved */
 
 enum bench_refusal {
     BENCH_ACCEPTED = 0,
@@ -38,10 +39,11 @@ enum bench_refusal {
     BENCH_PLAN_RULE = 8,      /* the plan breaks a rule */
     BENCH_NOT_EACH_ONCE = 9,  /* the order does not name every task once */
     BENCH_NOT_USABLE = 10,    /* a task is to run on a type that it cannot use, or that the plan does not have */
-    BENCH_TOO_EARLY = 11,     /* a task stands before one that it waits for */
+    BENCH_OUT_OF_ORDER = 11,  /* a task stands before one that it waits for */
     BENCH_UNSOUND_STATE = 12, /* the state is not one that start and tick make */
     BENCH_RUN_OVER = 13,      /* all tasks are finished */
     BENCH_NOT_RUNNING = 14,   /* a reported task is not running */
+    /* 15 is never given. */
     BENCH_OVERRUN = 16,       /* a running task is not reported and has now run its worst time */
     BENCH_TIMES_COUNT = 17,   /* the count of times is not the number of tasks */
     BENCH_TIME_RANGE = 18,    /* a time is 0 or above the worst of the chosen type */

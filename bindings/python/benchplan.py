@@ -119,20 +119,22 @@ def _load():
     path = os.environ.get("BENCHPLAN_LIBRARY") or top / "target" / "lib" / f"libbenchplan.so.{VERSION}"
     if not os.path.exists(path):
         raise ImportError(f"{path} is not there: ./build-library builds it, or set BENCHPLAN_LIBRARY to its path")
+    if not os.path.realpath(path).endswith(f".so.{VERSION}"):
+        raise ImportError(f"{path} is not version {VERSION} of the library")
     library = ctypes.CDLL(str(path))
-    for name, (answer, arguments) in _CALLS.items():
+    for name, (reply, arguments) in _CALLS.items():
         call = getattr(library, name)
-        call.restype, call.argtypes = answer, arguments
+        call.restype, call.argtypes = reply, arguments
     return library
 
 
 _library = _load()
 
 
-def _accepted(answer):
-    if answer.number:
-        raise Refused(answer.number, answer.place)
-    return answer
+def _accepted(reply):
+    if reply.number:
+        raise Refused(reply.number, reply.place)
+    return reply
 
 
 def _lent(kind, values):
@@ -173,8 +175,8 @@ Replayed = namedtuple("Replayed", "started ticks state")
 
 def read(text):
     """The plan of a text (bytes), with its constraint; 1 to 7."""
-    answer = _accepted(_library.bench_read(*_lent_text(text)))
-    return Plan(answer.plan, answer.constraint)
+    reply = _accepted(_library.bench_read(*_lent_text(text)))
+    return Plan(reply.plan, reply.constraint)
 
 
 def answer(text):
@@ -215,22 +217,22 @@ class Plan:
 
     def margins(self):
         """What is to spare of each deadline with worst times, by task number; the least, and its task, if `any` task has a deadline."""
-        answer = _accepted(_library.bench_margins(self._plan, self._constraint))
-        return Margins(answer.any, answer.least, answer.task, list(answer.slacks))
+        reply = _accepted(_library.bench_margins(self._plan, self._constraint))
+        return Margins(reply.any, reply.least, reply.task, list(reply.slacks))
 
     def start(self):
         """The state at instant 0, and the set of tasks to begin."""
-        answer = _accepted(_library.bench_start(self._plan, self._constraint))
-        return State(answer.state), _tasks_of(answer.started)
+        reply = _accepted(_library.bench_start(self._plan, self._constraint))
+        return State(reply.state), _tasks_of(reply.started)
 
     def replay(self, reports):
         """Start and a tick for each report: the tasks that start began, what each tick answered, and the last state."""
         words, count = _lent(c_uint64, [_set_of(report) for report in reports])
         numbers, places, sets = (_lent(kind, [0] * count) for kind in (c_uint32, c_size_t, c_uint64))
         call = _library.bench_replay
-        answer = _accepted(call(self._plan, self._constraint, words, count, *numbers, *places, *sets))
+        reply = _accepted(call(self._plan, self._constraint, words, count, *numbers, *places, *sets))
         ticks = zip(numbers[0][:count], places[0][:count], map(_tasks_of, sets[0][:count]))
-        return Replayed(_tasks_of(answer.started), [Ticked(*tick) for tick in ticks], State(answer.state))
+        return Replayed(_tasks_of(reply.started), [Ticked(*tick) for tick in ticks], State(reply.state))
 
 
 class State:
@@ -241,14 +243,14 @@ class State:
 
     def tick(self, report):
         """The state one instant on, with the reported tasks finished, and the set of tasks to begin; 12, 13, 14, 16."""
-        answer = _accepted(_library.bench_tick(self._state, _set_of(report)))
-        return State(answer.state), _tasks_of(answer.started)
+        reply = _accepted(_library.bench_tick(self._state, _set_of(report)))
+        return State(reply.state), _tasks_of(reply.started)
 
 
-def _run(answer):
-    _accepted(answer)
-    return Run(answer.response, list(answer.starts), list(answer.finishes))
+def _run(reply):
+    _accepted(reply)
+    return Run(reply.response, list(reply.starts), list(reply.finishes))
 
 
-def _written(answer, buffer):
-    return bytes(buffer[: _accepted(answer).written])
+def _written(reply, buffer):
+    return bytes(buffer[: _accepted(reply).written])

@@ -238,5 +238,6 @@ int main(void) {
         do_line(line, stop ? stop : end);
         line = stop ? stop + 1 : end;
     }
+    free(input);
     return 0;
 }

@@ -110,7 +110,7 @@ static void check_verdicts(void) {
     constraint.fields.length = BENCH_TASKS;
     plan.fields.predecessors[5] = (uint64_t)1 << 9;
     v = bench_check(plan.words, constraint.words);
-    HOLDS(v.number == BENCH_TOO_EARLY && v.place == 5);
+    HOLDS(v.number == BENCH_OUT_OF_ORDER && v.place == 5);
     HOLDS(bench_margins(plan.words, constraint.words).place == 5);
     HOLDS(bench_start(plan.words, constraint.words).place == 5);
 }
