@@ -47,8 +47,11 @@ class Refused(Exception):
     """A refusal: its number, its place, and the user guide's sentence for the number."""
 
     def __init__(self, number, place):
+        super().__init__(number, place)
         self.number, self.place, self.sentence = number, place, SENTENCES[number]
-        super().__init__(f"refused {number} at {place}: {self.sentence}")
+
+    def __str__(self):
+        return f"refused {self.number} at {self.place}: {self.sentence}"
 
 
 # The structs of benchplan.h, field by field.
