@@ -55,7 +55,7 @@ typedef struct { uint64_t words[614]; } bench_plan;
 typedef struct { uint64_t words[129]; } bench_constraint;
 typedef struct { uint64_t words[810]; } bench_state;
 
-/* By task number: starts, finishes and slacks (margins; `least` is the least of them and `task` has it, if `any` task has a deadline). */
+/* By task number: starts, finishes and slacks (margins, 0 without deadline; if `any` task has one, `least` is the least margin and `task` has it). */
 typedef struct { uint32_t number; size_t place; bench_plan plan; bench_constraint constraint; } bench_text;
 typedef struct { uint32_t number; size_t place; } bench_verdict;
 typedef struct { uint32_t number; size_t place; uint32_t response, starts[BENCH_TASKS], finishes[BENCH_TASKS]; } bench_run;

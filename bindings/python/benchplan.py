@@ -117,13 +117,13 @@ _CALLS = {
 
 
 def _load():
-    """The shared object of this module's version: structs may differ from one version to the next."""
-    top = pathlib.Path(__file__).resolve().parents[2]
-    path = os.environ.get("BENCHPLAN_LIBRARY") or top / "target" / "lib" / f"libbenchplan.so.{VERSION}"
-    if not os.path.exists(path):
+    """The shared object of this module's version: structs may differ from one version to the next, and the version is in its name."""
+    here = pathlib.Path(__file__).resolve().parent
+    path = pathlib.Path(os.environ.get("BENCHPLAN_LIBRARY") or here / f"../../target/lib/libbenchplan.so.{VERSION}").resolve()
+    if not path.exists():
         raise ImportError(f"{path} is not there: ./build-library builds it, or set BENCHPLAN_LIBRARY to its path")
-    if not os.path.realpath(path).endswith(f".so.{VERSION}"):
-        raise ImportError(f"{path} is not version {VERSION} of the library")
+    if path.suffix != f".{VERSION}":
+        raise ImportError(f"{path} is not version {VERSION} of the library: its name must end in .so.{VERSION}")
     library = ctypes.CDLL(str(path))
     for name, (reply, arguments) in _CALLS.items():
         call = getattr(library, name)

@@ -39,6 +39,8 @@ for number, sentence in benchplan.SENTENCES.items():
         faults.append(f"{number}: the module says {sentence!r}, the guide {rows.get(number)!r}")
     if refusals.get(number) != shortened(sentence):
         faults.append(f"{number}: the module says {sentence!r}, the header {refusals.get(number)!r}")
+if f"libbenchplan.so.{benchplan.VERSION}" not in guide:
+    faults.append(f"the guide does not name libbenchplan.so.{benchplan.VERSION}")
 for macro, digits in macros.items():
     if macro in ("BENCH_STACK_MOST", "BENCH_TIMETABLE_MOST", "BENCH_TEXT_MOST") and f"{int(digits):,}" not in guide:
         faults.append(f"the guide does not say {macro}, {int(digits):,}")

@@ -29,6 +29,8 @@ def swaps_of(text):
 folder, *headers = map(pathlib.Path, sys.argv[1:])
 texts = {header.name: header.read_text() for header in headers}
 for name, text in texts.items():
+    if len(STRUCT.findall(text)) != text.count("typedef struct"):
+        sys.exit(f"{name}: a struct that is not in the form that this script reads")
     for swap, swapped in swaps_of(text):
         place = folder / swap
         place.mkdir(parents=True)

@@ -13,9 +13,13 @@ def main(path):
     with open(path, "rb") as file:
         text = file.read()
     try:
-        state, begin = benchplan.read(text).start()
+        plan = benchplan.read(text)
     except benchplan.Refused as refusal:
-        sys.exit(f"the text or the plan is refused: {refusal}")
+        sys.exit(f"the text is refused: {refusal}")
+    try:
+        state, begin = plan.start()
+    except benchplan.Refused as refusal:
+        sys.exit(f"the plan is refused: {refusal}")
     instant = 0
     say(instant, begin)
     for line in sys.stdin:
