@@ -136,9 +136,7 @@ fn replay(table: &mut Table, name: &str, shape: &Shape) {
 }
 
 /// A program in another language, which ticks once for each report, against the rival's ticks.
-fn ticks(
-    table: &mut Table, name: &str, command: &mut Command, rounds: usize, target: Option<f64>,
-) {
+fn ticks(table: &mut Table, name: &str, command: &mut Command, target: Option<f64>) {
     let (plan, constraint) = plans::MIXED.plan();
     let reports = plans::reports(&plan, &constraint);
     let rivals = |answers: &mut [Result<u64, Refusal>]| {
@@ -155,7 +153,7 @@ fn ticks(
     assert_same(name, program.answers(), answers.iter().map(accepted).collect());
     let one_tick = || {
         let run = measure::batches(|| rivals(&mut answers));
-        let (ours, rivals) = measure::least(rounds, || program.round(), run);
+        let (ours, rivals) = measure::least(|| program.round(), run);
         (ours, rivals / reports.len() as f64)
     };
     table.line(name, one_tick, target);
@@ -206,8 +204,8 @@ fn main() {
     replay(t, "replay a chain", &plans::CHAIN);
     replay(t, "replay all at once", &plans::WIDE);
     replay(t, "replay a mixture", &plans::MIXED);
-    ticks(t, "a tick from C", &mut Command::new("target/tick"), measure::ROUNDS, Some(2.5));
-    ticks(t, "a tick from Python", &mut python(), 31, None);
+    ticks(t, "a tick from C", &mut Command::new("target/tick"), Some(2.5));
+    ticks(t, "a tick from Python", &mut python(), None);
     t.head(["simulation, ours against ours", &format!("of {LONGEST_TIME}"), "of 1", "", ""]);
     long_times(t, "times, the largest plan", &plans::ANY_TIMES);
     long_times(t, "times, few arrows", &plans::ANY_TIMES_FEW_ARROWS);

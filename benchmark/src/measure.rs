@@ -2,7 +2,7 @@
 use std::hint::black_box;
 use std::time::{Duration, Instant};
 
-pub const ROUNDS: usize = 101;
+const ROUNDS: usize = 101;
 const BATCH: Duration = Duration::from_millis(2);
 
 /// The answer is lent to `black_box` whole, so that all of it must be worked out.
@@ -29,14 +29,10 @@ pub fn batches<A>(mut work: impl FnMut() -> A) -> impl FnMut() -> f64 {
     move || time(calls, &mut work).as_nanos() as f64 / f64::from(calls)
 }
 
-/// Both figures from the least disturbed of these many rounds. Neither always goes first.
-pub fn least(
-    rounds: usize,
-    mut ours: impl FnMut() -> f64,
-    mut rivals: impl FnMut() -> f64,
-) -> (f64, f64) {
+/// Both figures from the least disturbed round. Neither always goes first.
+pub fn least(mut ours: impl FnMut() -> f64, mut rivals: impl FnMut() -> f64) -> (f64, f64) {
     let (mut a, mut b) = (f64::INFINITY, f64::INFINITY);
-    for round in 0..rounds {
+    for round in 0..ROUNDS {
         if round % 2 == 0 {
             a = a.min(ours());
         }
@@ -50,5 +46,5 @@ pub fn least(
 
 /// The nanoseconds of one call of each.
 pub fn by_turns<A, B>(ours: impl FnMut() -> A, rivals: impl FnMut() -> B) -> (f64, f64) {
-    least(ROUNDS, batches(ours), batches(rivals))
+    least(batches(ours), batches(rivals))
 }

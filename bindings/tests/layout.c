@@ -246,13 +246,12 @@ static void *untouched(void) {
     return (uint8_t *)room + GUARD;
 }
 
-/* Whether these many bytes are all that was written, from the first to the last eight. */
+/* Whether a struct of this size was written, its first and its last word, and nothing before or behind it. */
 static bool fills(size_t size) {
     const uint8_t *bytes = (const uint8_t *)room;
-    size_t first = 0, last = sizeof room;
-    while (first < sizeof room && bytes[first] == UNTOUCHED) first++;
-    while (last > first && bytes[last - 1] == UNTOUCHED) last--;
-    return first == GUARD && last <= GUARD + size && last > GUARD + size - 8;
+    for (size_t i = 0; i < GUARD; i++)
+        if (bytes[i] != UNTOUCHED || bytes[GUARD + size + i] != UNTOUCHED) return false;
+    return bytes[GUARD] != UNTOUCHED && bytes[GUARD + size - 8] != UNTOUCHED;
 }
 
 static void check_sizes(void) {
