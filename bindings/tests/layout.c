@@ -2,7 +2,6 @@
    two that are exchanged are noticed. C99 and C++. */
 #include "fields.h"
 #include <stdio.h>
-#include <stdlib.h>
 #include <string.h>
 
 static int failed = 0;

@@ -1,6 +1,6 @@
 /* The stack that each call takes, with its arguments and its answer, on the largest plan: painted, called, and looked at. Fails if one takes
    more than BENCH_STACK_MOST. */
-#include "fields.h"
+#include "benchplan.h"
 #include <stdio.h>
 #include <string.h>
 #include <ucontext.h>
