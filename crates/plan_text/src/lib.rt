@@ -9,13 +9,14 @@ ghost use Rattle.plan_text.specs.Text.{readText, refused};
 use fault::KIND_C;
 use fault::KIND_U;
 use fault::line_fault;
-use form::read_line;
 use plan::Constraint;
 use plan::Plan;
 
 mod fault;
 mod fill;
 mod form;
+
+pub use form::read_line;
 
 const NEWLINE: u8 = b'\n';
 

@@ -1,0 +1,177 @@
+// The chain of tasks that makes R: from a task that finishes at R back to what held it, and so on, to a task that starts at 0.
+// A predecessor is preferred to a task that freed a unit, and that to the order; of several tasks the first in the order is taken.
+// A task that only the order held starts together with the one before it, so the time of that one adds nothing to R.
+use crate::held;
+use crate::held::Row;
+use crate::held::first_of;
+use crate::names;
+use crate::put;
+use plan::Constraint;
+use plan::MOST_TASKS;
+use plan::Plan;
+use simulation::Simulation;
+use task_set::contains;
+use task_set::inserted;
+
+// The tasks of the chain, and those of them whose time adds nothing.
+struct Chain {
+    members: u64,
+    idle: u64,
+}
+
+fn by_order_alone(r: Row) -> bool {
+    r.behind & ((r.awaited | r.freeing) == 0)
+}
+
+// The task before this one in the chain. This one starts after 0.
+fn cause(order: &[usize; MOST_TASKS], n: usize, r: Row) -> usize {
+    if r.awaited != 0 {
+        return first_of(order, n, r.awaited);
+    }
+    if r.freeing != 0 {
+        return first_of(order, n, r.freeing);
+    }
+    r.previous
+}
+
+// Those whose time adds nothing, with the task before this one if the order alone joins the two.
+fn idle_with(idle: u64, r: Row) -> u64 {
+    if by_order_alone(r) {
+        return inserted(idle, r.previous);
+    }
+    idle
+}
+
+// What comes before in the chain comes before in the order, so one walk back meets all of it.
+fn traced(p: Plan, c: Constraint, s: Simulation, last: usize) -> Chain {
+    let n = p.tasks;
+    let mut members = inserted(0, last);
+    let mut idle = 0;
+    let mut i = n;
+    while 0 < i {
+        i -= 1;
+        let r = held::at(
+            &c.order,
+            &c.chosen,
+            &p.predecessors,
+            &p.units,
+            &s.starts,
+            &s.finishes,
+            n,
+            i,
+        );
+        if contains(members, r.task) & (0 < r.start) {
+            members = inserted(members, cause(&c.order, n, r));
+            idle = idle_with(idle, r);
+        }
+    }
+    Chain { members, idle }
+}
+
+fn put_cause(order: &[usize; MOST_TASKS], n: usize, r: Row) {
+    if r.start == 0 {
+        put::text(b"starts at once");
+    } else if r.awaited != 0 {
+        put::text(b"waits for ");
+        names::task(cause(order, n, r));
+    } else if r.freeing != 0 {
+        put_unit(r.units);
+        put::words(b" of type ", r.kind as u64, b" from ");
+        names::task(cause(order, n, r));
+    } else {
+        put::text(b"starts with ");
+        names::task(r.previous);
+        put::text(b", which comes before it in the order");
+    }
+}
+
+fn put_unit(units: u32) {
+    if units == 1 {
+        put::text(b"gets the unit");
+    } else {
+        put::text(b"gets a unit");
+    }
+}
+
+// The time of a task, unless it adds nothing.
+fn added(r: Row, idle: u64) -> u32 {
+    if contains(idle, r.task) {
+        return 0;
+    }
+    if r.finish < r.start {
+        return 0;
+    }
+    r.finish - r.start
+}
+
+fn put_link(order: &[usize; MOST_TASKS], n: usize, r: Row, h: Chain, digits: usize) {
+    if contains(h.members, r.task) {
+        put::right(r.task as u64, 4);
+        put::under(b"start", digits, r.start as u64);
+        put::under(b"finish", digits, r.finish as u64);
+        put::under(b"adds", digits, added(r, h.idle) as u64);
+        put::text(b"  ");
+        put_cause(order, n, r);
+        put::end_line();
+    }
+}
+
+fn put_links(p: Plan, c: Constraint, s: Simulation, h: Chain, digits: usize) {
+    let n = p.tasks;
+    let mut i = 0;
+    while i < n {
+        let at = i;
+        i += 1;
+        let r = held::at(
+            &c.order,
+            &c.chosen,
+            &p.predecessors,
+            &p.units,
+            &s.starts,
+            &s.finishes,
+            n,
+            at,
+        );
+        put_link(&c.order, n, r, h, digits);
+    }
+}
+
+fn put_heads(digits: usize) {
+    put::text(b"task");
+    put::head(b"start", digits);
+    put::head(b"finish", digits);
+    put::head(b"adds", digits);
+    put::end_line();
+}
+
+// What the links add up to; start and finish stay empty.
+fn put_sum(response: u32, digits: usize) {
+    put::text(b"   R");
+    put::head(b"     ", digits);
+    put::head(b"      ", digits);
+    put::under(b"adds", digits, response as u64);
+    put::end_line();
+}
+
+// Whose finish R is, and of which of these tasks the chain is.
+fn put_last(order: &[usize; MOST_TASKS], n: usize, response: u32, set: u64) {
+    put::words(b"R is ", response as u64, b", the finish of ");
+    names::tasks(set);
+    if task_set::member_count(set) == 1 {
+        put::text(b". The chain of tasks that makes it:\n");
+    } else {
+        put::text(b". The chain of tasks that makes ");
+        names::task(first_of(order, n, set));
+        put::text(b" finish then:\n");
+    }
+}
+
+pub fn show(p: Plan, c: Constraint, s: Simulation, digits: usize) {
+    let n = p.tasks;
+    let set = held::finishing(&s.finishes, n, s.response);
+    put_last(&c.order, n, s.response, set);
+    let h = traced(p, c, s, first_of(&c.order, n, set));
+    put_heads(digits);
+    put_links(p, c, s, h, digits);
+    put_sum(s.response, digits);
+}

@@ -1,0 +1,239 @@
+// Refusal 2: what keeps a line from being one of the five forms.
+use crate::lines;
+use crate::put;
+
+const TAB: u8 = b'\t';
+
+const RETURN: u8 = b'\r';
+
+// More fields than this no line has that is worth a closer look.
+const MOST_FIELDS: usize = 8;
+
+// UTF-16 begins with its mark; without one every second byte of its lines is zero.
+pub fn is_utf16(s: &[u8]) -> bool {
+    let a = lines::byte(s, 0);
+    let b = lines::byte(s, 1);
+    ((a == 255) & (b == 254)) | ((a == 254) & (b == 255)) | lines::has(s, 0)
+}
+
+pub fn put_utf16() {
+    put::text(
+        b"the text is saved as UTF-16, with two bytes for each character; save it as UTF-8 without byte order mark",
+    );
+}
+
+fn has_mark(s: &[u8]) -> bool {
+    (lines::byte(s, 0) == 239) & (lines::byte(s, 1) == 187) & (lines::byte(s, 2) == 191)
+}
+
+// The first byte that is neither space nor tab; 0 where there is none.
+fn first_visible(s: &[u8]) -> u8 {
+    let mut i = 0;
+    while i < s.len() {
+        if (s[i] != b' ') & (s[i] != TAB) {
+            return s[i];
+        }
+        i += 1;
+    }
+    0
+}
+
+fn begins_comment(b: u8) -> bool {
+    (b == b'#') | (b == b'/') | (b == b';') | (b == b'%') | (b == b'!')
+}
+
+fn is_letter(b: u8) -> bool {
+    (b == b'U') | (b == b'T') | (b == b'A') | (b == b'D') | (b == b'C')
+}
+
+fn is_small_letter(b: u8) -> bool {
+    (b == b'u') | (b == b't') | (b == b'a') | (b == b'd') | (b == b'c')
+}
+
+fn put_mark(s: &[u8]) {
+    put::text(
+        b"the text begins with a byte order mark (bytes EF BB BF, which editors do not show); save it as UTF-8 without",
+    );
+    if lines::has(s, RETURN) {
+        put::text(b", and with Unix line ends: the line has a carriage return, too");
+    }
+}
+
+// What is wrong with a line as a whole, by its bytes; false where it is none of these.
+fn whole_line(s: &[u8], place: usize) -> bool {
+    let visible = first_visible(s);
+    if is_utf16(s) {
+        put_utf16();
+    } else if (place == 1) & has_mark(s) {
+        put_mark(s);
+    } else if lines::has(s, RETURN) {
+        put::text(
+            b"the line has a carriage return (byte 0D), as Windows ends lines; save the text with Unix line ends (LF)",
+        );
+    } else if visible == 0 {
+        put::text(b"the line is blank; take it out: a plan text has no blank lines");
+    } else if begins_comment(visible) | lines::has(s, b'#') {
+        put::text(b"the line has a comment; take it out: a plan text has no comments");
+    } else if lines::has(s, b' ') {
+        put::text(
+            b"the line has spaces; one tab (quoted here as \xe2\x87\xa5) stands before each number, and nothing else does",
+        );
+    } else {
+        return false;
+    }
+    true
+}
+
+// What is wrong with the letter and the tab behind it; false where nothing is.
+fn front(s: &[u8]) -> bool {
+    let letter = lines::byte(s, 0);
+    let second = lines::byte(s, 1);
+    if is_small_letter(letter) & (second == TAB) {
+        put::text(b"the letter is a small one; write U, T, A, D or C");
+    } else if !is_letter(letter) {
+        put::text(b"a line begins with one of the letters U, T, A, D and C, and a tab");
+    } else if second != TAB {
+        put::text(b"one tab stands behind the letter, then the first number");
+    } else {
+        return false;
+    }
+    true
+}
+
+fn is_digit(b: u8) -> bool {
+    (b'0' <= b) & (b <= b'9')
+}
+
+// The first byte of a field that is no digit; a digit where there is none.
+fn first_other(s: &[u8]) -> u8 {
+    let mut i = 0;
+    while i < s.len() {
+        if !is_digit(s[i]) {
+            return s[i];
+        }
+        i += 1;
+    }
+    b'0'
+}
+
+fn is_good(field: &[u8]) -> bool {
+    let zero = (1 < field.len()) & (lines::byte(field, 0) == b'0');
+    (0 < field.len()) & (field.len() <= 7) & is_digit(first_other(field)) & !zero
+}
+
+fn put_field_fault(field: &[u8]) {
+    let other = first_other(field);
+    if (other == b'.') | (other == b',') {
+        put::text(
+            b"has a decimal point or comma; numbers are whole: take a shorter tick, or round (a worst time up)",
+        );
+    } else if (other == b'-') | (other == b'+') {
+        put::text(b"has a sign; numbers have none");
+    } else if !is_digit(other) {
+        put::text(b"is no whole number");
+    } else if 7 < field.len() {
+        put::text(b"has more than 7 digits");
+    } else {
+        put::text(b"begins with 0; leave that out");
+    }
+}
+
+// Where the field of this number, counted from 1, begins: behind so many tabs.
+fn field_start(s: &[u8], k: usize) -> usize {
+    let mut at = 0;
+    let mut i = 0;
+    while i < k {
+        let e = lines::find_byte(s, at, TAB);
+        at = lines::following(s, e);
+        i += 1;
+    }
+    at
+}
+
+fn field(s: &[u8], k: usize) -> &[u8] {
+    let at = field_start(s, k);
+    lines::part(s, at, lines::find_byte(s, at, TAB))
+}
+
+// There is a field behind each tab.
+fn count_fields(s: &[u8]) -> usize {
+    let mut n = 0;
+    let mut at = 0;
+    while n < s.len() {
+        let e = lines::find_byte(s, at, TAB);
+        if s.len() <= e {
+            return n;
+        }
+        at = lines::following(s, e);
+        n += 1;
+    }
+    n
+}
+
+// The first field that is no number, counted from 1; 0 where there is none among those that are looked at.
+fn faulty_field(s: &[u8], count: usize) -> usize {
+    let mut k = 1;
+    while k <= MOST_FIELDS {
+        if (k <= count) & !is_good(field(s, k)) {
+            return k;
+        }
+        k += 1;
+    }
+    0
+}
+
+fn put_faulty_field(s: &[u8], k: usize) {
+    let f = field(s, k);
+    put::words(b"number ", k as u64, b" of the line");
+    if f.len() == 0 {
+        put::text(b" is missing: two tabs follow each other, or a tab ends the line");
+        return;
+    }
+    put::text(b", \"");
+    lines::put_quoted(f);
+    put::text(b"\", ");
+    put_field_fault(f);
+}
+
+fn put_form(letter: u8) {
+    match letter {
+        b'U' => put::text(b"a U line has 2 numbers: type, count"),
+        b'T' => put::text(b"a T line has 4 numbers: task, type, best, worst"),
+        b'A' => put::text(b"an A line has 2 numbers: from, to"),
+        b'D' => put::text(b"a D line has 2 numbers: task, instant"),
+        _ => put::text(b"a C line has 2 numbers: task, type"),
+    }
+}
+
+fn wanted(letter: u8) -> usize {
+    if letter == b'T' {
+        return 4;
+    }
+    2
+}
+
+fn put_fields(s: &[u8]) {
+    let letter = lines::byte(s, 0);
+    let count = count_fields(s);
+    let k = faulty_field(s, count);
+    if k != 0 {
+        put_faulty_field(s, k);
+    } else if count != wanted(letter) {
+        put_form(letter);
+        put::words(b"; this one has ", count as u64, b"");
+    } else {
+        put::text(b"the last line does not end in a newline; press Enter at its end");
+    }
+}
+
+pub fn show(text: &[u8], place: usize) {
+    let s = lines::line(text, place);
+    put::words(b"refused 2 at line ", place as u64, b": ");
+    if !whole_line(s, place) {
+        if !front(s) {
+            put_fields(s);
+        }
+    }
+    put::end_line();
+    lines::quote(text, place);
+}
