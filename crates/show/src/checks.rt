@@ -19,6 +19,14 @@ fn without(text: &[u8], letter: u8, tasks: usize) -> u64 {
     set
 }
 
+// The tasks with a T line and no C line.
+pub fn unlisted(text: &[u8]) -> u64 {
+    task_set::difference(
+        without(text, b'C', MOST_TASKS),
+        without(text, b'T', MOST_TASKS),
+    )
+}
+
 fn have_or_has(set: u64) {
     if task_set::member_count(set) == 1 {
         put::text(b" has");

@@ -105,8 +105,14 @@ fn put_ways(next: &[usize; MOST_TASKS], t: usize) {
     }
 }
 
+// The line of an arrow; it goes against the order if the task that it leads to stands above.
 fn quote_arrow(text: &[u8], from: usize, to: usize) {
-    lines::quote(text, lines::find_two(text, b'A', from as u64, to as u64));
+    let place = lines::find_two(text, b'A', from as u64, to as u64);
+    if lines::find_one(text, b'C', to as u64) < lines::find_one(text, b'C', from as u64) {
+        lines::quote_with(text, place, b" (against the order)");
+    } else {
+        lines::quote(text, place);
+    }
 }
 
 fn quote_arrows(text: &[u8], next: &[usize; MOST_TASKS], t: usize) {
@@ -123,6 +129,15 @@ fn quote_arrows(text: &[u8], next: &[usize; MOST_TASKS], t: usize) {
     }
 }
 
+// Of two arrows that lead to each other's beginning one is too many.
+fn put_advice(next: &[usize; MOST_TASKS], t: usize) {
+    if get::entry(next, get::entry(next, t)) == t {
+        put::text(b"\n  take one of these two arrows out:\n");
+    } else {
+        put::text(b"\n  take one of these arrows out, or exchange its two numbers:\n");
+    }
+}
+
 // The circle through a task.
 fn put_circle(text: &[u8], predecessors: &[u64; MOST_TASKS], t: usize) {
     let mut next = [0; MOST_TASKS];
@@ -133,14 +148,14 @@ fn put_circle(text: &[u8], predecessors: &[u64; MOST_TASKS], t: usize) {
         b"",
     );
     put_ways(&next, t);
-    put::text(b"\n  take one of these arrows out, or exchange its two numbers:\n");
+    put_advice(&next, t);
     quote_arrows(text, &next, t);
 }
 
 // The lines of a predecessor that stands later: its arrow, and its place in the order.
 fn quote_later(text: &[u8], later: u64, from: usize, to: usize) {
     if task_set::contains(later, from) {
-        quote_arrow(text, from, to);
+        lines::quote(text, lines::find_two(text, b'A', from as u64, to as u64));
         lines::quote(text, lines::find_one(text, b'C', from as u64));
     }
 }
@@ -162,11 +177,26 @@ fn put_later(later: u64) {
     }
 }
 
-fn put_remedy(later: u64, place: usize) {
-    put::words(b"  move line ", place as u64, b" down, behind ");
-    names::tasks(later);
-    put::text(
-        b"; or exchange the two numbers of the A line, if it should be the other way round\n",
+// The last C line of some tasks.
+fn last_choice(text: &[u8], set: u64) -> usize {
+    let mut last = 0;
+    let mut t = 0;
+    while t < MOST_TASKS {
+        let place = lines::find_one(text, b'C', t as u64);
+        if task_set::contains(set, t) & (last < place) {
+            last = place;
+        }
+        t += 1;
+    }
+    last
+}
+
+fn put_remedy(text: &[u8], later: u64, place: usize) {
+    put::words(b"  move line ", place as u64, b" down, below line ");
+    put::words(
+        b"",
+        last_choice(text, later) as u64,
+        b"; or, if an arrow is the wrong way round, exchange its two numbers\n",
     );
 }
 
@@ -188,9 +218,10 @@ pub fn show<'a>(
     lines::quote(text, place);
     quote_all_later(text, later, t);
     let s = on_circle(predecessors, t);
+    if s != t {
+        put_remedy(text, later, place);
+    }
     if s < MOST_TASKS {
         put_circle(text, predecessors, s);
-    } else {
-        put_remedy(later, place);
     }
 }

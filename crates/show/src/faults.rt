@@ -1,7 +1,8 @@
 // Refusals 3 to 7: what is wrong with a line that has one of the five forms.
+use crate::checks;
 use crate::lines;
+use crate::names;
 use crate::put;
-use plan::LATEST_DEADLINE;
 use plan::LONGEST_TIME;
 use plan::MOST_TASKS;
 use plan::MOST_TYPES;
@@ -9,30 +10,65 @@ use plan::MOST_UNITS;
 use plan_text::Line;
 use plan_text::LineForm;
 
-// Nothing where the number is in its range.
-fn range(name: &[u8], n: u32, least: u32, most: u32) {
+// Nothing where the number is in its range; a word of advice where it is above.
+fn range(name: &[u8], n: u32, least: u32, most: u32, above: &[u8]) {
     if (n < least) | (most < n) {
         put::text(b"  ");
         put::text(name);
         put::words(b" ", n as u64, b" is not one of ");
         put::words(b"", least as u64, b" to ");
-        put::words(b"", most as u64, b"\n");
+        put::number(most as u64);
+        if most < n {
+            put::text(above);
+        }
+        put::end_line();
     }
 }
 
 fn task_range(t: u32) {
-    range(b"task", t, 0, MOST_TASKS as u32 - 1);
+    range(
+        b"task",
+        t,
+        0,
+        MOST_TASKS as u32 - 1,
+        b": tasks are numbered from 0",
+    );
 }
 
 fn type_range(k: u32) {
-    range(b"type", k, 0, MOST_TYPES as u32 - 1);
+    range(
+        b"type",
+        k,
+        0,
+        MOST_TYPES as u32 - 1,
+        b": types are numbered from 0",
+    );
+}
+
+fn time_range(name: &[u8], x: u32) {
+    range(name, x, 1, LONGEST_TIME, b": take a longer tick");
 }
 
 fn times_range(t: u32, k: u32, best: u32, worst: u32) {
     task_range(t);
     type_range(k);
-    range(b"best time", best, 1, LONGEST_TIME);
-    range(b"worst time", worst, 1, LONGEST_TIME);
+    time_range(b"best time", best);
+    time_range(b"worst time", worst);
+}
+
+fn arrow_range(from: u32, to: u32) {
+    task_range(from);
+    if to != from {
+        task_range(to);
+    }
+}
+
+fn deadline_range(t: u32, d: u32) {
+    task_range(t);
+    time_range(b"deadline", d);
+    if d == 0 {
+        put::text(b"  a task without deadline has no D line\n");
+    }
 }
 
 fn ranges(line: Line) {
@@ -40,17 +76,11 @@ fn ranges(line: Line) {
     match line {
         Line::Units(k, n) => {
             type_range(k);
-            range(b"count", n, 1, MOST_UNITS);
+            range(b"count", n, 1, MOST_UNITS, b"");
         }
         Line::Times(t, k, b, w) => times_range(t, k, b, w),
-        Line::Arrow(from, to) => {
-            task_range(from);
-            task_range(to);
-        }
-        Line::Deadline(t, d) => {
-            task_range(t);
-            range(b"deadline", d, 1, LATEST_DEADLINE);
-        }
+        Line::Arrow(from, to) => arrow_range(from, to),
+        Line::Deadline(t, d) => deadline_range(t, d),
         Line::Choice(t, k) => {
             task_range(t);
             type_range(k);
@@ -62,7 +92,7 @@ fn odds(line: Line) {
     match line {
         Line::Times(_, _, b, w) => {
             put::words(b"the worst time, ", w as u64, b", is below the best time");
-            put::words(b", ", b as u64, b"\n");
+            put::words(b", ", b as u64, b"; are they exchanged?\n");
         }
         Line::Arrow(from, _) => put::words(
             b"the arrow leads from task ",
@@ -73,22 +103,59 @@ fn odds(line: Line) {
     }
 }
 
-// All lines before are in order, so the one just before is of a later kind.
-fn late(text: &[u8], place: usize) {
-    if 1 < place {
-        put_letter(text, place);
-        put::text(b" stands behind ");
-        put_letter(text, place - 1);
-        put::text(b"; move it up: the order is U, T, A, D, C\n");
-        lines::quote(text, place - 1);
+// The kind of line that comes after this one; 0 after the last.
+fn next_kind(letter: u8) -> u8 {
+    match letter {
+        b'U' => b'T',
+        b'T' => b'A',
+        b'A' => b'D',
+        b'D' => b'C',
+        _ => 0,
     }
+}
+
+// No line has more kinds after it.
+const LATER_KINDS: usize = 4;
+
+// The first line of a later kind. All lines above this one are in order.
+fn first_later(text: &[u8], letter: u8) -> usize {
+    let mut kind = letter;
+    let mut i = 0;
+    while i < LATER_KINDS {
+        kind = next_kind(kind);
+        let found = lines::find_letter(text, kind);
+        if found != 0 {
+            return found;
+        }
+        i += 1;
+    }
+    0
 }
 
 fn put_letter(text: &[u8], place: usize) {
     put::text(lines::part(lines::line(text, place), 0, 1));
 }
 
-// The name of a task or a type has no line of its own yet, of this letter.
+// A U line behind a C line may be the first of a second plan.
+fn late(text: &[u8], place: usize) {
+    let letter = lines::byte(lines::line(text, place), 0);
+    let later = first_later(text, letter);
+    put_letter(text, place);
+    put::text(b" stands behind ");
+    put_letter(text, later);
+    put::words(
+        b"; move the line up, above line ",
+        later as u64,
+        b": the order is U, T, A, D, C",
+    );
+    if letter == b'U' {
+        put::text(b". Or does a second plan begin here? A text has one plan");
+    }
+    put::end_line();
+    lines::quote(text, later);
+}
+
+// A task or a type that has no line of its own above this place, of this letter.
 fn absent(text: &[u8], place: usize, name: &[u8], letter: &[u8], n: u32) {
     let found = lines::find_one(text, lines::byte(letter, 0), n as u64);
     if (found != 0) & (found < place) {
@@ -101,7 +168,11 @@ fn absent(text: &[u8], place: usize, name: &[u8], letter: &[u8], n: u32) {
     if found == 0 {
         put::text(b" line\n");
     } else {
-        put::words(b" line above; move line ", found as u64, b" up\n");
+        put::words(
+            b" line above; it is line ",
+            found as u64,
+            b": the order is U, T, A, D, C\n",
+        );
     }
 }
 
@@ -109,11 +180,16 @@ fn absent_task(text: &[u8], place: usize, t: u32) {
     absent(text, place, b"task", b"T", t);
 }
 
+fn absent_tasks(text: &[u8], place: usize, from: u32, to: u32) {
+    absent_task(text, place, from);
+    absent_task(text, place, to);
+}
+
 // Of a U line all lines before are U lines.
 fn next_type(place: usize) {
     if 0 < place {
         put::words(
-            b"  the next type is ",
+            b"this should be the U line of type ",
             place as u64 - 1,
             b": U lines give the types in order, from 0\n",
         );
@@ -121,17 +197,29 @@ fn next_type(place: usize) {
 }
 
 fn unknown(text: &[u8], place: usize, line: Line) {
-    put::text(b"the line names what the plan does not have\n");
     match line {
         Line::Units(_, _) => next_type(place),
-        Line::Times(_, k, _, _) => absent(text, place, b"type", b"U", k),
-        Line::Arrow(from, to) => {
-            absent_task(text, place, from);
-            absent_task(text, place, to);
+        Line::Times(_, k, _, _) => {
+            put::text(b"the line names a type that has no U line above\n");
+            absent(text, place, b"type", b"U", k);
         }
-        Line::Deadline(t, _) => absent_task(text, place, t),
-        Line::Choice(t, _) => absent_task(text, place, t),
+        Line::Arrow(from, to) => {
+            put_unknown_task();
+            absent_tasks(text, place, from, to);
+        }
+        Line::Deadline(t, _) => {
+            put_unknown_task();
+            absent_task(text, place, t);
+        }
+        Line::Choice(t, _) => {
+            put_unknown_task();
+            absent_task(text, place, t);
+        }
     }
+}
+
+fn put_unknown_task() {
+    put::text(b"the line names a task that has no T line above\n");
 }
 
 // The first line that says the same, of the numbers that may not come twice.
@@ -158,10 +246,23 @@ fn put_twice(line: Line) {
     }
 }
 
+// A task that stands in the order twice is often mistyped for one that does not stand in it.
+fn put_unlisted(text: &[u8], line: Line) {
+    if let Line::Choice(_, _) = line {
+        let set = checks::unlisted(text);
+        if set != 0 {
+            put::text(b"  no C line yet: ");
+            names::tasks(set);
+            put::end_line();
+        }
+    }
+}
+
 fn repeated(text: &[u8], line: Line) {
     let place = earlier(text, line);
     put_twice(line);
-    put::words(b": line ", place as u64, b"\n");
+    put::words(b": see line ", place as u64, b"\n");
+    put_unlisted(text, line);
     lines::quote(text, place);
 }
 

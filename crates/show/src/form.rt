@@ -9,11 +9,12 @@ const RETURN: u8 = b'\r';
 // More fields than this no line has that is worth a closer look.
 const MOST_FIELDS: usize = 8;
 
-// UTF-16 begins with its mark; without one every second byte of its lines is zero.
+// UTF-16 begins with its mark; without one every second byte of a line is zero.
 pub fn is_utf16(s: &[u8]) -> bool {
     let a = lines::byte(s, 0);
     let b = lines::byte(s, 1);
-    ((a == 255) & (b == 254)) | ((a == 254) & (b == 255)) | lines::has(s, 0)
+    let marked = ((a == 255) & (b == 254)) | ((a == 254) & (b == 255));
+    marked | ((1 < s.len()) & ((a == 0) | (b == 0)))
 }
 
 pub fn put_utf16() {
@@ -52,28 +53,77 @@ fn is_small_letter(b: u8) -> bool {
 
 fn put_mark(s: &[u8]) {
     put::text(
-        b"the text begins with a byte order mark (bytes EF BB BF, which editors do not show); save it as UTF-8 without",
+        b"the text begins with a byte order mark (bytes ef bb bf, which editors do not show); save it as UTF-8 without that mark",
     );
     if lines::has(s, RETURN) {
         put::text(b", and with Unix line ends: the line has a carriage return, too");
     }
 }
 
-// What is wrong with a line as a whole, by its bytes; false where it is none of these.
-fn whole_line(s: &[u8], place: usize) -> bool {
-    let visible = first_visible(s);
+// Where a byte is that is not ASCII; the end where there is none.
+fn first_beyond(s: &[u8]) -> usize {
+    let mut i = 0;
+    while i < s.len() {
+        if 127 < s[i] {
+            return i;
+        }
+        i += 1;
+    }
+    s.len()
+}
+
+// The sign that stands for a tab in the guide, as UTF-8 has it.
+fn is_tab_sign(s: &[u8]) -> bool {
+    (lines::byte(s, 0) == 226) & (lines::byte(s, 1) == 135) & (lines::byte(s, 2) == 165)
+}
+
+fn put_beyond(s: &[u8]) {
+    let rest = lines::part(s, first_beyond(s), s.len());
+    if is_tab_sign(rest) {
+        put::text(b"the sign \xe2\x87\xa5 stands for a tab in the guide; type a tab");
+    } else {
+        put::text(
+            b"the line has a character that is not plain ASCII, which editors may show as a space or not at all; delete it: ",
+        );
+        lines::put_part(lines::part(rest, 0, 1));
+    }
+}
+
+// What is wrong with how the text was saved; false where nothing is.
+fn saved(s: &[u8], place: usize) -> bool {
     if is_utf16(s) {
         put_utf16();
     } else if (place == 1) & has_mark(s) {
         put_mark(s);
     } else if lines::has(s, RETURN) {
         put::text(
-            b"the line has a carriage return (byte 0D), as Windows ends lines; save the text with Unix line ends (LF)",
+            b"the line has a carriage return (byte 0d), as Windows (CR LF) and old Macs (CR) end lines; save the text with Unix line ends (LF)",
         );
-    } else if visible == 0 {
+    } else if lines::has(s, 0) {
+        put::text(b"the line has a zero byte; take it out");
+    } else if first_beyond(s) < s.len() {
+        put_beyond(s);
+    } else {
+        return false;
+    }
+    true
+}
+
+// What is wrong with a line as a whole; false where it is none of these.
+fn whole_line(s: &[u8]) -> bool {
+    let visible = first_visible(s);
+    if visible == 0 {
         put::text(b"the line is blank; take it out: a plan text has no blank lines");
     } else if begins_comment(visible) | lines::has(s, b'#') {
         put::text(b"the line has a comment; take it out: a plan text has no comments");
+    } else if lines::has(s, b'"') {
+        put::text(b"the line has quotation marks; take them out");
+    } else if lines::byte(s, 0) == TAB {
+        put::text(b"the line begins with a tab; take it out");
+    } else if lines::byte(s, 0) == b' ' {
+        put::text(b"the line begins with a space; take it out");
+    } else if lines::last_byte(s) == b' ' {
+        put::text(b"the line ends in a space; take it out");
     } else if lines::has(s, b' ') {
         put::text(
             b"the line has spaces; one tab (quoted here as \xe2\x87\xa5) stands before each number, and nothing else does",
@@ -90,10 +140,14 @@ fn front(s: &[u8]) -> bool {
     let second = lines::byte(s, 1);
     if is_small_letter(letter) & (second == TAB) {
         put::text(b"the letter is a small one; write U, T, A, D or C");
-    } else if !is_letter(letter) {
-        put::text(b"a line begins with one of the letters U, T, A, D and C, and a tab");
-    } else if second != TAB {
-        put::text(b"one tab stands behind the letter, then the first number");
+    } else if (second == b',') | (second == b';') {
+        put::text(
+            b"commas or semicolons stand for tabs; one tab stands before each number: save the text with tabs",
+        );
+    } else if (second != TAB) | !is_letter(letter) {
+        put::text(
+            b"a line begins with one of the letters U, T, A, D and C, and a tab; there are no headings",
+        );
     } else {
         return false;
     }
@@ -125,14 +179,16 @@ fn put_field_fault(field: &[u8]) {
     let other = first_other(field);
     if (other == b'.') | (other == b',') {
         put::text(
-            b"has a decimal point or comma; numbers are whole: take a shorter tick, or round (a worst time up)",
+            b"has a point or comma; numbers are whole and have no separators: for a fraction take a shorter tick, or round (a worst time up)",
         );
-    } else if (other == b'-') | (other == b'+') {
+    } else if ((other == b'-') | (other == b'+')) & (1 < field.len()) {
         put::text(b"has a sign; numbers have none");
+    } else if is_letter(other) & (field.len() == 1) {
+        put::text(b"is no number; is a newline missing before it?");
     } else if !is_digit(other) {
-        put::text(b"is no whole number");
+        put::text(b"has other characters than digits");
     } else if 7 < field.len() {
-        put::text(b"has more than 7 digits");
+        put::text(b"has more than 7 digits; no number is above 1000000");
     } else {
         put::text(b"begins with 0; leave that out");
     }
@@ -184,15 +240,20 @@ fn faulty_field(s: &[u8], count: usize) -> usize {
 
 fn put_faulty_field(s: &[u8], k: usize) {
     let f = field(s, k);
-    put::words(b"number ", k as u64, b" of the line");
-    if f.len() == 0 {
-        put::text(b" is missing: two tabs follow each other, or a tab ends the line");
-        return;
+    if (f.len() == 0) & (lines::last_byte(s) == TAB) {
+        put::text(b"a tab ends the line; take it out");
+    } else if f.len() == 0 {
+        put::words(
+            b"two tabs stand before number ",
+            k as u64,
+            b"; take one out",
+        );
+    } else {
+        put::words(b"number ", k as u64, b" of the line, ");
+        lines::put_part(f);
+        put::text(b", ");
+        put_field_fault(f);
     }
-    put::text(b", \"");
-    lines::put_quoted(f);
-    put::text(b"\", ");
-    put_field_fault(f);
 }
 
 fn put_form(letter: u8) {
@@ -226,14 +287,24 @@ fn put_fields(s: &[u8]) {
     }
 }
 
+// The first cause that applies.
+fn cause(s: &[u8], place: usize) {
+    if saved(s, place) {
+        return;
+    }
+    if whole_line(s) {
+        return;
+    }
+    if front(s) {
+        return;
+    }
+    put_fields(s);
+}
+
 pub fn show(text: &[u8], place: usize) {
     let s = lines::line(text, place);
     put::words(b"refused 2 at line ", place as u64, b": ");
-    if !whole_line(s, place) {
-        if !front(s) {
-            put_fields(s);
-        }
-    }
+    cause(s, place);
     put::end_line();
     lines::quote(text, place);
 }

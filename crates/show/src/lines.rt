@@ -7,8 +7,10 @@ use plan_text::LineForm;
 // A text of more lines than this is refused for its length: a line has three bytes at least.
 const MOST_LINES: usize = 32768;
 
-// What is quoted of a line at most.
-const MOST_QUOTED: usize = 72;
+// What is quoted of a line at most, and of a part of a line in a sentence.
+const MOST_OF_LINE: usize = 72;
+
+const MOST_OF_PART: usize = 24;
 
 // The lines that are sought: their letter, and how many of their numbers, from the first, are these.
 pub struct Sought {
@@ -58,6 +60,14 @@ pub fn following(s: &[u8], i: usize) -> usize {
         return i + 1;
     }
     s.len()
+}
+
+// The last byte; 0 where there is none.
+pub fn last_byte(s: &[u8]) -> u8 {
+    if s.len() == 0 {
+        return 0;
+    }
+    s[s.len() - 1]
 }
 
 // Past the newline of the line that begins at a position; the end of the text where it has none.
@@ -116,6 +126,22 @@ fn find(text: &[u8], sought: Sought) -> usize {
         place += 1;
     }
     0
+}
+
+// The first line with this letter.
+pub fn find_letter(text: &[u8], letter: u8) -> usize {
+    let alike = 0;
+    let first = 0;
+    let second = 0;
+    find(
+        text,
+        Sought {
+            letter,
+            alike,
+            first,
+            second,
+        },
+    )
 }
 
 // The first line with this letter and this first number.
@@ -177,18 +203,30 @@ fn put_bytes(s: &[u8]) {
 }
 
 // Bytes as they are quoted, cut where they are many.
-pub fn put_quoted(s: &[u8]) {
-    if s.len() <= MOST_QUOTED {
+fn put_quoted(s: &[u8], most: usize) {
+    if s.len() <= most {
         put_bytes(s);
     } else {
-        put_bytes(part(s, 0, MOST_QUOTED));
+        put_bytes(part(s, 0, most));
         put::text(b" ..");
     }
 }
 
-// A line of its own that quotes the line at a place.
-pub fn quote(text: &[u8], place: usize) {
+// A part of a line, in quotation marks.
+pub fn put_part(s: &[u8]) {
+    put::text(b"\"");
+    put_quoted(s, MOST_OF_PART);
+    put::text(b"\"");
+}
+
+// The line at a place, quoted, with a word about it.
+pub fn quote_with(text: &[u8], place: usize, word: &[u8]) {
     put::words(b"  line ", place as u64, b": ");
-    put_quoted(line(text, place));
+    put_quoted(line(text, place), MOST_OF_LINE);
+    put::text(word);
     put::end_line();
+}
+
+pub fn quote(text: &[u8], place: usize) {
+    quote_with(text, place, b"");
 }

@@ -2,45 +2,77 @@
 // refused; `why`, what held each task until its start; `picture`, the timetable of worst times as a chart.
 use libc::STDIN_FILENO;
 
+mod arrows;
+mod axis;
+mod bars;
+mod cells;
 mod chain;
 mod checks;
 mod circle;
+mod due;
 mod explain;
 mod faults;
 mod form;
 mod get;
 mod held;
+mod key;
+mod lanes;
 mod lines;
 mod names;
+mod picture;
 mod put;
+mod rows;
+mod scale;
+mod spread;
+mod style;
+mod svg;
 mod why;
 
-fn show_why(text: &[u8]) {
+// What is shown of a plan that the check takes: the picture, or the table.
+fn show_plan(text: &[u8], as_picture: bool) {
     let a = plan_text::read(text);
     if a.number != 0 {
         return;
     }
     let p = a.plan;
     let c = a.constraint;
-    if simulation::bound(p, c).number == 0 {
+    if simulation::bound(p, c).number != 0 {
+        return;
+    }
+    if as_picture {
+        picture::show(p, c);
+    } else {
         why::show(p, c);
     }
 }
 
-// The first letter of the word is enough to tell them apart.
-fn show(letter: u8, text: &[u8]) {
-    match letter {
-        b'e' => explain::show(text),
-        b'w' => show_why(text),
-        _ => {}
+// Whether a word is this one.
+fn is_word(word: &[u8], wanted: &[u8]) -> bool {
+    let mut i = 0;
+    while i < wanted.len() {
+        if lines::byte(word, i) != lines::byte(wanted, i) {
+            return false;
+        }
+        i += 1;
+    }
+    word.len() == wanted.len()
+}
+
+// Nothing at any other word.
+fn show(word: &[u8], text: &[u8]) {
+    if is_word(word, b"explain") {
+        explain::show(text);
+    } else if is_word(word, b"why") {
+        show_plan(text, false);
+    } else if is_word(word, b"picture") {
+        show_plan(text, true);
     }
 }
 
 fn main() {
     let mut text = io::large_buffer();
     let n = io::read_full(STDIN_FILENO, &mut text);
-    let mut word = [0u8; 8];
-    os::arg(1, &mut word);
-    let letter = word[0];
-    show(letter, &text[..n]);
+    let mut word = io::buffer();
+    let k = os::arg(1, &mut word);
+    show(&word[..k], &text[..n]);
 }

@@ -22,7 +22,8 @@ fn member(set: u64, t: usize) {
     }
 }
 
-fn members(set: u64) {
+// The members alone.
+pub fn numbers(set: u64) {
     let mut t = 0;
     while t < plan::MOST_TASKS {
         member(set, t);
@@ -37,7 +38,7 @@ pub fn named<'a>(one: &'a [u8], several: &'a [u8], set: u64) {
     } else {
         put::text(several);
     }
-    members(set);
+    numbers(set);
 }
 
 pub fn task(t: usize) {

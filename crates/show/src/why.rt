@@ -59,8 +59,9 @@ fn put_behind(r: Row) {
     if (r.awaited | r.freeing) != 0 {
         put::text(b"; ");
     }
-    put::text(b"the order: it comes after ");
+    put::text(b"the order: ");
     names::task(r.previous);
+    put::text(b", just before it, starts only then");
 }
 
 fn put_reasons(order: &[usize; MOST_TASKS], n: usize, r: Row) {
