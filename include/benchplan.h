@@ -16,7 +16,7 @@
 extern "C" {
 #endif
 
-#define BENCHPLAN_VERSION 401      /* 0.4.1: ten thousands, hundreds, ones. Structs may differ from one version to the next: compile anew. */
+#define BENCHPLAN_VERSION 402      /* 0.4.2: ten thousands, hundreds, ones. Structs may differ from one version to the next: compile anew. */
 #define BENCH_TASKS 64
 #define BENCH_TYPES 8
 #define BENCH_UNITS 8              /* of each type */

@@ -16,7 +16,7 @@ import pathlib
 from collections import namedtuple
 from ctypes import POINTER, byref, c_bool, c_int64, c_size_t, c_uint8, c_uint32, c_uint64
 
-VERSION = 401
+VERSION = 402
 TASKS = 64
 TIMETABLE_MOST = 1448
 ANSWER_MOST = 1448

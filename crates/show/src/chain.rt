@@ -14,7 +14,7 @@ use task_set::contains;
 use task_set::inserted;
 
 // The tasks of the chain, and those of them whose time adds nothing.
-struct Chain {
+pub struct Chain {
     members: u64,
     idle: u64,
 }
@@ -104,7 +104,8 @@ fn added(r: Row, idle: u64) -> u32 {
     r.finish - r.start
 }
 
-fn put_link(order: &[usize; MOST_TASKS], n: usize, r: Row, h: Chain, digits: usize) {
+// A link of the chain, if the task is one.
+pub fn put_link(order: &[usize; MOST_TASKS], n: usize, r: Row, h: Chain, digits: usize) {
     if contains(h.members, r.task) {
         put::right(r.task as u64, 4);
         put::under(b"start", digits, r.start as u64);
@@ -113,26 +114,6 @@ fn put_link(order: &[usize; MOST_TASKS], n: usize, r: Row, h: Chain, digits: usi
         put::text(b"  ");
         put_cause(order, n, r);
         put::end_line();
-    }
-}
-
-fn put_links(p: Plan, c: Constraint, s: Simulation, h: Chain, digits: usize) {
-    let n = p.tasks;
-    let mut i = 0;
-    while i < n {
-        let at = i;
-        i += 1;
-        let r = held::at(
-            &c.order,
-            &c.chosen,
-            &p.predecessors,
-            &p.units,
-            &s.starts,
-            &s.finishes,
-            n,
-            at,
-        );
-        put_link(&c.order, n, r, h, digits);
     }
 }
 
@@ -166,12 +147,22 @@ fn put_last(order: &[usize; MOST_TASKS], n: usize, response: u32, set: u64) {
     }
 }
 
-pub fn show(p: Plan, c: Constraint, s: Simulation, digits: usize) {
-    let n = p.tasks;
-    let set = held::finishing(&s.finishes, n, s.response);
-    put_last(&c.order, n, s.response, set);
-    let h = traced(p, c, s, first_of(&c.order, n, set));
+// The tasks that finish at R.
+fn last_tasks(p: Plan, s: Simulation) -> u64 {
+    held::finishing(&s.finishes, p.tasks, s.response)
+}
+
+// The chain of the first of them in the order.
+pub fn of(p: Plan, c: Constraint, s: Simulation) -> Chain {
+    traced(p, c, s, first_of(&c.order, p.tasks, last_tasks(p, s)))
+}
+
+pub fn begin(p: Plan, c: Constraint, s: Simulation, digits: usize) {
+    put::end_line();
+    put_last(&c.order, p.tasks, s.response, last_tasks(p, s));
     put_heads(digits);
-    put_links(p, c, s, h, digits);
+}
+
+pub fn end(s: Simulation, digits: usize) {
     put_sum(s.response, digits);
 }

@@ -50,25 +50,56 @@ pub fn no_plan(text: &[u8], tasks: usize) {
     names::tasks(set);
     have_or_has(set);
     put::words(
-        b" no T line; tasks are numbered from 0 without a gap, and there is a task ",
+        b" no T line; tasks are numbered from 0 without a gap to the greatest, ",
         tasks as u64 - 1,
-        b"\n",
+        b"",
     );
+    put_whether_from_1(set);
     lines::quote(text, lines::find_one(text, b'T', tasks as u64 - 1));
 }
 
+// Only task 0 is missing where tasks are counted from 1.
+fn put_whether_from_1(set: u64) {
+    if set == 1 {
+        put::text(b": are they counted from 1?\n");
+    } else {
+        put::text(b": add it, or number the tasks anew\n");
+    }
+}
+
+// What a missing C line needs: its type, and behind which tasks it stands.
+fn put_needs(text: &[u8], set: u64, before: u64, t: usize) {
+    if task_set::contains(set, t) {
+        put::words(b"  task ", t as u64, b" can use ");
+        names::named(b"type ", b"types ", usable(text, t));
+        if before != 0 {
+            put::text(b" and stands behind ");
+            names::tasks(before);
+        }
+        put::end_line();
+    }
+}
+
+fn put_all_needs(text: &[u8], predecessors: &[u64; MOST_TASKS], set: u64) {
+    let mut t = 0;
+    while t < MOST_TASKS {
+        put_needs(text, set, plan::predecessors_of(predecessors, t), t);
+        t += 1;
+    }
+}
+
 // No task of a text that was read stands in the order twice, so some stand in it nowhere.
-pub fn missing_choice(text: &[u8], tasks: usize) {
+pub fn missing_choice(text: &[u8], predecessors: &[u64; MOST_TASKS], tasks: usize) {
     put::text(b"refused 9: ");
     let set = without(text, b'C', tasks);
     if task_set::member_count(set) as usize == tasks {
-        put::text(b"there are no C lines");
-    } else {
-        names::tasks(set);
-        have_or_has(set);
-        put::text(b" no C line");
+        put::text(b"there are no C lines; the order has one for each task\n");
+        return;
     }
-    put::text(b"; the order has one for each task\n");
+    names::tasks(set);
+    have_or_has(set);
+    put::text(b" no C line; the order has one for each task\n");
+    put_all_needs(text, predecessors, set);
 }
 
 // The types on which a task can run.

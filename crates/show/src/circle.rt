@@ -1,4 +1,6 @@
 // Refusal 11: which predecessor stands later; and if the arrows lead in a circle, the circle.
+use crate::arrows;
+use crate::cells;
 use crate::checks;
 use crate::get;
 use crate::lines;
@@ -138,12 +140,17 @@ fn put_advice(next: &[usize; MOST_TASKS], t: usize) {
     }
 }
 
-// The circle through a task.
-fn put_circle(text: &[u8], predecessors: &[u64; MOST_TASKS], t: usize) {
+// The circle through a task: that of the refused one, or another fault of the text besides.
+fn put_circle(text: &[u8], predecessors: &[u64; MOST_TASKS], t: usize, besides: bool) {
     let mut next = [0; MOST_TASKS];
     ways_to(predecessors, &mut next, t);
+    if besides {
+        put::text(b"  besides, other arrows");
+    } else {
+        put::text(b"  the arrows");
+    }
     put::words(
-        b"  no order is right, since the arrows lead in a circle: ",
+        b" lead in a circle, so that no order is right: ",
         t as u64,
         b"",
     );
@@ -193,17 +200,48 @@ fn last_choice(text: &[u8], set: u64) -> usize {
 
 fn put_remedy(text: &[u8], later: u64, place: usize) {
     put::words(b"  move line ", place as u64, b" down, below line ");
-    put::words(
-        b"",
-        last_choice(text, later) as u64,
-        b"; or, if an arrow is the wrong way round, exchange its two numbers\n",
+    put::number(last_choice(text, later) as u64);
+    put::text(
+        b"; or, if it should be the other way round, exchange the two numbers of the A line\n",
     );
+}
+
+// How many arrows lead to tasks of the order from tasks that stand later.
+fn count_against<'a>(
+    predecessors: &'a [u64; MOST_TASKS],
+    order: &'a [usize; MOST_TASKS],
+    n: usize,
+) -> u64 {
+    let mut found = 0;
+    let mut i = 0;
+    while i < n {
+        let before = plan::predecessors_of(predecessors, get::entry(order, i));
+        let later = task_set::difference(before, standing_before(order, i));
+        found = cells::plus(found, task_set::member_count(later) as u64);
+        i += 1;
+    }
+    found
+}
+
+// How many arrows go against the order, where it is not this one alone; if it is most of them, all may be the wrong way round.
+fn put_count<'a>(predecessors: &'a [u64; MOST_TASKS], order: &'a [usize; MOST_TASKS], n: usize) {
+    let against = count_against(predecessors, order, n);
+    let all = arrows::count(predecessors, n);
+    if 1 < against {
+        put::words(b"  in all ", against, b" of ");
+        put::words(b"", all, b" arrows go against the order");
+        if all < cells::plus(against, against) {
+            put::text(b": are their two numbers exchanged, or is the order reversed?");
+        }
+        put::end_line();
+    }
 }
 
 pub fn show<'a>(
     text: &[u8],
     predecessors: &'a [u64; MOST_TASKS],
     order: &'a [usize; MOST_TASKS],
+    n: usize,
     position: usize,
 ) {
     let t = get::entry(order, position);
@@ -221,7 +259,8 @@ pub fn show<'a>(
     if s != t {
         put_remedy(text, later, place);
     }
+    put_count(predecessors, order, n);
     if s < MOST_TASKS {
-        put_circle(text, predecessors, s);
+        put_circle(text, predecessors, s, s != t);
     }
 }

@@ -36,9 +36,9 @@ fn unchecked(text: &[u8], p: Plan, c: Constraint) {
     let number = v.number;
     match number {
         8 => checks::no_plan(text, p.tasks),
-        9 => checks::missing_choice(text, p.tasks),
+        9 => checks::missing_choice(text, &p.predecessors, p.tasks),
         10 => checks::unusable_type(text, &c.order, &c.chosen, v.place),
-        11 => circle::show(text, &p.predecessors, &c.order, v.place),
+        11 => circle::show(text, &p.predecessors, &c.order, p.tasks, v.place),
         _ => {}
     }
 }

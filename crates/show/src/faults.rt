@@ -97,7 +97,7 @@ fn odds(line: Line) {
         Line::Arrow(from, _) => put::words(
             b"the arrow leads from task ",
             from as u64,
-            b" to itself\n",
+            b" to itself; take it out\n",
         ),
         _ => {}
     }
@@ -117,14 +117,14 @@ fn next_kind(letter: u8) -> u8 {
 // No line has more kinds after it.
 const LATER_KINDS: usize = 4;
 
-// The first line of a later kind. All lines above this one are in order.
-fn first_later(text: &[u8], letter: u8) -> usize {
+// The first line of a later kind above this one. All lines above it are in order.
+fn first_later(text: &[u8], letter: u8, place: usize) -> usize {
     let mut kind = letter;
     let mut i = 0;
     while i < LATER_KINDS {
         kind = next_kind(kind);
         let found = lines::find_letter(text, kind);
-        if found != 0 {
+        if (found != 0) & (found < place) {
             return found;
         }
         i += 1;
@@ -139,19 +139,19 @@ fn put_letter(text: &[u8], place: usize) {
 // A U line behind a C line may be the first of a second plan.
 fn late(text: &[u8], place: usize) {
     let letter = lines::byte(lines::line(text, place), 0);
-    let later = first_later(text, letter);
+    let later = first_later(text, letter, place);
+    let choice = lines::find_letter(text, b'C');
     put_letter(text, place);
     put::text(b" stands behind ");
     put_letter(text, later);
+    if (letter == b'U') & (0 < choice) & (choice < place) {
+        put::text(b": does a second plan begin here? A text has one plan. If not");
+    }
     put::words(
         b"; move the line up, above line ",
         later as u64,
-        b": the order is U, T, A, D, C",
+        b": the order is U, T, A, D, C\n",
     );
-    if letter == b'U' {
-        put::text(b". Or does a second plan begin here? A text has one plan");
-    }
-    put::end_line();
     lines::quote(text, later);
 }
 
@@ -165,14 +165,16 @@ fn absent(text: &[u8], place: usize, name: &[u8], letter: &[u8], n: u32) {
     put::text(name);
     put::words(b" ", n as u64, b" has no ");
     put::text(letter);
-    if found == 0 {
-        put::text(b" line\n");
-    } else {
+    if found != 0 {
         put::words(
-            b" line above; it is line ",
+            b" line above; it is below, line ",
             found as u64,
             b": the order is U, T, A, D, C\n",
         );
+    } else if lines::find_letter(text, lines::byte(letter, 0)) != 0 {
+        put::text(b" line\n");
+    } else {
+        put::text(b" line; the text has none at all\n");
     }
 }
 
@@ -189,9 +191,9 @@ fn absent_tasks(text: &[u8], place: usize, from: u32, to: u32) {
 fn next_type(place: usize) {
     if 0 < place {
         put::words(
-            b"this should be the U line of type ",
+            b"the U line of type ",
             place as u64 - 1,
-            b": U lines give the types in order, from 0\n",
+            b" is missing above, or this type is wrong: U lines give the types in order, from 0\n",
         );
     }
 }

@@ -1,4 +1,5 @@
 // Refusal 2: what keeps a line from being one of the five forms.
+use crate::cells;
 use crate::lines;
 use crate::put;
 
@@ -14,7 +15,7 @@ pub fn is_utf16(s: &[u8]) -> bool {
     let a = lines::byte(s, 0);
     let b = lines::byte(s, 1);
     let marked = ((a == 255) & (b == 254)) | ((a == 254) & (b == 255));
-    marked | ((1 < s.len()) & ((a == 0) | (b == 0)))
+    marked | ((1 < s.len()) & ((a == 0) != (b == 0)))
 }
 
 pub fn put_utf16() {
@@ -77,15 +78,27 @@ fn is_tab_sign(s: &[u8]) -> bool {
     (lines::byte(s, 0) == 226) & (lines::byte(s, 1) == 135) & (lines::byte(s, 2) == 165)
 }
 
+// How many bytes a character of UTF-8 has that begins so.
+fn width(b: u8) -> usize {
+    match b {
+        0..=191 => 1,
+        192..=223 => 2,
+        224..=239 => 3,
+        _ => 4,
+    }
+}
+
 fn put_beyond(s: &[u8]) {
     let rest = lines::part(s, first_beyond(s), s.len());
+    let sign = lines::part(rest, 0, width(lines::byte(rest, 0)));
     if is_tab_sign(rest) {
         put::text(b"the sign \xe2\x87\xa5 stands for a tab in the guide; type a tab");
     } else {
+        put::text(b"the line has a character that is not plain ASCII, ");
+        lines::put_part(sign);
         put::text(
-            b"the line has a character that is not plain ASCII, which editors may show as a space or not at all; delete it: ",
+            b", which may look like a space, like another one, or not at all; type it anew, or take it out",
         );
-        lines::put_part(lines::part(rest, 0, 1));
     }
 }
 
@@ -114,8 +127,12 @@ fn whole_line(s: &[u8]) -> bool {
     let visible = first_visible(s);
     if visible == 0 {
         put::text(b"the line is blank; take it out: a plan text has no blank lines");
-    } else if begins_comment(visible) | lines::has(s, b'#') {
-        put::text(b"the line has a comment; take it out: a plan text has no comments");
+    } else if begins_comment(visible) {
+        put::text(b"the line is a comment; take it out: a plan text has no comments");
+    } else if lines::has(s, b'#') | lines::has(s, b'/') {
+        put::text(
+            b"the line has a comment; take it out, with the tab or spaces before it: a plan text has no comments",
+        );
     } else if lines::has(s, b'"') {
         put::text(b"the line has quotation marks; take them out");
     } else if lines::byte(s, 0) == TAB {
@@ -134,6 +151,10 @@ fn whole_line(s: &[u8]) -> bool {
     true
 }
 
+fn is_in_word(b: u8) -> bool {
+    (b'A' <= b) & (b <= b'z')
+}
+
 // What is wrong with the letter and the tab behind it; false where nothing is.
 fn front(s: &[u8]) -> bool {
     let letter = lines::byte(s, 0);
@@ -144,10 +165,12 @@ fn front(s: &[u8]) -> bool {
         put::text(
             b"commas or semicolons stand for tabs; one tab stands before each number: save the text with tabs",
         );
-    } else if (second != TAB) | !is_letter(letter) {
+    } else if is_in_word(letter) & is_in_word(second) {
         put::text(
-            b"a line begins with one of the letters U, T, A, D and C, and a tab; there are no headings",
+            b"a line begins with one letter, U, T, A, D or C, and a tab; there are no headings",
         );
+    } else if (second != TAB) | !is_letter(letter) {
+        put::text(b"a line begins with one of the letters U, T, A, D and C, and a tab");
     } else {
         return false;
     }
@@ -241,7 +264,7 @@ fn faulty_field(s: &[u8], count: usize) -> usize {
 fn put_faulty_field(s: &[u8], k: usize) {
     let f = field(s, k);
     if (f.len() == 0) & (lines::last_byte(s) == TAB) {
-        put::text(b"a tab ends the line; take it out");
+        put::text(b"the line ends in a tab; take out all tabs at its end");
     } else if f.len() == 0 {
         put::words(
             b"two tabs stand before number ",
@@ -307,4 +330,12 @@ pub fn show(text: &[u8], place: usize) {
     cause(s, place);
     put::end_line();
     lines::quote(text, place);
+    let others = cells::less(lines::count_unformed(text), 1);
+    if 0 < others {
+        put::words(
+            b"  lines that are none of the forms, besides this one: ",
+            others,
+            b"\n",
+        );
+    }
 }

@@ -8,7 +8,7 @@ use crate::svg;
 
 fn deadline_key(s: Sets, x: u64, y: u64) {
     svg::flag(b"flag met", x, less(y, 5));
-    svg::words(b"key", plus(x, 120), y, b"deadline, met");
+    svg::words(b"key", plus(x, 120), y, b"deadline of that task");
     if s.late != 0 {
         svg::flag(b"flag", plus(x, 1300), less(y, 5));
         svg::words(b"key", plus(x, 1420), y, b"missed");
@@ -36,7 +36,7 @@ fn arrow_key(x: u64, y: u64) {
     svg::step(b"L", plus(x, 400), less(y, 40));
     svg::end_path();
     svg::end_group();
-    svg::words(b"key", plus(x, 470), y, b"leads to a task that waits");
+    svg::words(b"key", plus(x, 470), y, b"to a task that waits for it");
 }
 
 pub fn draw(s: Sets, arrows: u64, bottom: u64) {

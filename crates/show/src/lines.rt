@@ -1,10 +1,11 @@
 // The lines of a text: the one at a place, counted from 1, and where a line like this one stands first.
 ghost use Prim.Native.Nat.{_≤_};
+use crate::cells;
 use crate::put;
 use plan_text::Line;
 use plan_text::LineForm;
 
-// A text of more lines than this is refused for its length: a line has three bytes at least.
+// A text of more lines is refused for its length: each has its newline.
 const MOST_LINES: usize = 32768;
 
 // What is quoted of a line at most, and of a part of a line in a sentence.
@@ -115,10 +116,10 @@ fn matches(s: &[u8], sought: Sought) -> bool {
 }
 
 // The place of the first line that is sought; 0 where there is none.
-fn find(text: &[u8], sought: Sought) -> usize {
+fn find_first(text: &[u8], sought: Sought) -> usize {
     let mut at = 0;
     let mut place = 1;
-    while place < MOST_LINES {
+    while place <= MOST_LINES {
         if matches(part(text, at, find_byte(text, at, b'\n')), sought) {
             return place;
         }
@@ -128,12 +129,8 @@ fn find(text: &[u8], sought: Sought) -> usize {
     0
 }
 
-// The first line with this letter.
-pub fn find_letter(text: &[u8], letter: u8) -> usize {
-    let alike = 0;
-    let first = 0;
-    let second = 0;
-    find(
+fn find(text: &[u8], letter: u8, alike: usize, first: u64, second: u64) -> usize {
+    find_first(
         text,
         Sought {
             letter,
@@ -142,35 +139,45 @@ pub fn find_letter(text: &[u8], letter: u8) -> usize {
             second,
         },
     )
+}
+
+// The first line with this letter.
+pub fn find_letter(text: &[u8], letter: u8) -> usize {
+    find(text, letter, 0, 0, 0)
 }
 
 // The first line with this letter and this first number.
 pub fn find_one(text: &[u8], letter: u8, first: u64) -> usize {
-    let alike = 1;
-    let second = 0;
-    find(
-        text,
-        Sought {
-            letter,
-            alike,
-            first,
-            second,
-        },
-    )
+    find(text, letter, 1, first, 0)
 }
 
 // The first line with this letter and these first two numbers.
 pub fn find_two(text: &[u8], letter: u8, first: u64, second: u64) -> usize {
-    let alike = 2;
-    find(
-        text,
-        Sought {
-            letter,
-            alike,
-            first,
-            second,
-        },
-    )
+    find(text, letter, 2, first, second)
+}
+
+// One more for a line that is none of the forms.
+fn counted(n: u64, s: &[u8]) -> u64 {
+    if let LineForm::Of(_) = plan_text::read_line(s) {
+        return n;
+    }
+    cells::plus(n, 1)
+}
+
+// How many lines are none of the five forms.
+pub fn count_unformed(text: &[u8]) -> u64 {
+    let mut n = 0;
+    let mut at = 0;
+    let mut place = 1;
+    while place <= MOST_LINES {
+        if text.len() <= at {
+            return n;
+        }
+        n = counted(n, part(text, at, find_byte(text, at, b'\n')));
+        at = next_line(text, at);
+        place += 1;
+    }
+    n
 }
 
 // A byte as it is quoted: a tab as an arrow, what cannot be printed by its hexadecimal number.

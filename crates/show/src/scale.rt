@@ -10,7 +10,7 @@ pub const LENGTH: u64 = 10000;
 
 pub const RIGHT: u64 = 11150;
 
-pub const SHEET: u64 = 11650;
+pub const SHEET: u64 = 11750;
 
 // How high a bar is and what is left free above and below it, where the lanes begin, and whether they are many.
 pub struct Size {

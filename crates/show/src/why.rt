@@ -1,5 +1,6 @@
 // `why`: what held each task until its start in the run of worst times, in the order; then the chain of tasks that makes R.
 use crate::chain;
+use crate::chain::Chain;
 use crate::held;
 use crate::held::Row;
 use crate::names;
@@ -84,7 +85,24 @@ fn put_row(order: &[usize; MOST_TASKS], n: usize, r: Row, digits: usize) {
     put::end_line();
 }
 
-fn put_rows(p: Plan, c: Constraint, s: Simulation, digits: usize) {
+// The row of a task, or its link in the chain.
+fn put_one<'a>(
+    order: &'a [usize; MOST_TASKS],
+    n: usize,
+    r: Row,
+    digits: usize,
+    h: Chain,
+    links: bool,
+) {
+    if links {
+        chain::put_link(order, n, r, h, digits);
+    } else {
+        put_row(order, n, r, digits);
+    }
+}
+
+// The rows of all tasks in the order, or the links of the chain.
+fn put_rows(p: Plan, c: Constraint, s: Simulation, digits: usize, h: Chain, links: bool) {
     let n = p.tasks;
     let mut i = 0;
     while i < n {
@@ -100,7 +118,7 @@ fn put_rows(p: Plan, c: Constraint, s: Simulation, digits: usize) {
             n,
             at,
         );
-        put_row(&c.order, n, r, digits);
+        put_one(&c.order, n, r, digits, h, links);
     }
 }
 
@@ -116,8 +134,10 @@ fn put_heads(digits: usize) {
 pub fn show(p: Plan, c: Constraint) {
     let s = simulation::bound(p, c);
     let digits = put::digits(s.response as u64);
+    let h = chain::of(p, c, s);
     put_heads(digits);
-    put_rows(p, c, s, digits);
-    put::end_line();
-    chain::show(p, c, s, digits);
+    put_rows(p, c, s, digits, h, false);
+    chain::begin(p, c, s, digits);
+    put_rows(p, c, s, digits, h, true);
+    chain::end(s, digits);
 }

@@ -5,10 +5,10 @@ use Rattle.show.proofs.faults.first_later.Statement.{statement}
 use Rattle.show.proofs.faults.first_later.Tie as tie
 
 abbrev Inv-loop : tie.InvT-loop
-Inv-loop text letter kind₀ i₀ kind i = Unit {0}
+Inv-loop text letter place kind₀ i₀ kind i = Unit {0}
 
 abbrev μ-loop : tie.MeasureT-loop
-μ-loop text letter kind₀ i₀ kind i = 4 - i
+μ-loop text letter place kind₀ i₀ kind i = 4 - i
 
 pub first-later-spec : {M : Type 1} → statement M
 first-later-spec =
