@@ -67,8 +67,8 @@ def first_later(records, place):
 def late(records, place):
     letter, later = records[place][0], first_later(records, place)
     is_second = letter == "U" and 0 < first(records, "C") < place
-    second = ": does a second plan begin here? A text has one plan. If not" if is_second else ""
-    return [f"{letter} stands behind {records[later][0]}{second}; move the line up, above line {later}: {IN_ORDER}"], [later, place]
+    move = ": does a second plan begin here? A text has one plan. If not, move" if is_second else "; move"
+    return [f"{letter} stands behind {records[later][0]}{move} the line up, above line {later}: {IN_ORDER}"], [later, place]
 
 
 def unknown(records, place):
@@ -114,7 +114,7 @@ def no_plan(records, _):
     if most is None:
         return ["there is no T line, so the plan has no task"], []
     without, lack = without_line(records, "T")
-    advice = "are they counted from 1?" if without == {0} else "add it, or number the tasks anew"
+    advice = "are they counted from 1?" if without == {0} else "add what is missing, or number the tasks anew"
     return [f"{lack}tasks are numbered from 0 without a gap to the greatest, {most}: {advice}"], [first(records, "T", most)]
 
 

@@ -9,7 +9,7 @@ use crate::LineForm;
 
 const TAB: u8 = b'\t';
 
-const MOST_DIGITS: usize = 7;
+pub const MOST_DIGITS: usize = 7;
 
 const MOST_FIELDS: usize = 4;
 

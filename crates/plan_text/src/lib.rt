@@ -16,11 +16,12 @@ mod fault;
 mod fill;
 mod form;
 
+pub use form::MOST_DIGITS;
 pub use form::read_line;
 
 const NEWLINE: u8 = b'\n';
 
-const MOST_BYTES: usize = 32768;
+pub const MOST_BYTES: usize = 32768;
 
 // A line of one of the five forms: U, type, count; T, task, type, best, worst; A, from, to; D, task, instant; C, task, type.
 pub enum Line {

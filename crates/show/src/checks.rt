@@ -63,7 +63,7 @@ fn put_whether_from_1(set: u64) {
     if set == 1 {
         put::text(b": are they counted from 1?\n");
     } else {
-        put::text(b": add it, or number the tasks anew\n");
+        put::text(b": add what is missing, or number the tasks anew\n");
     }
 }
 

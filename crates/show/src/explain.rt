@@ -11,8 +11,10 @@ use plan::Plan;
 
 // What is too long is most often another file, or one saved with two bytes for each character.
 fn too_long(text: &[u8]) {
-    put::text(
-        b"refused 1: the text has more than 32768 bytes; is it the right file, and one plan only?\n",
+    put::words(
+        b"refused 1: the text has more than ",
+        plan_text::MOST_BYTES as u64,
+        b" bytes; is it the right file, and one plan only?\n",
     );
     let first = lines::line(text, 1);
     if form::is_utf16(first) {

@@ -3,6 +3,7 @@ use crate::checks;
 use crate::lines;
 use crate::names;
 use crate::put;
+use plan::LATEST_DEADLINE;
 use plan::LONGEST_TIME;
 use plan::MOST_TASKS;
 use plan::MOST_TYPES;
@@ -65,7 +66,7 @@ fn arrow_range(from: u32, to: u32) {
 
 fn deadline_range(t: u32, d: u32) {
     task_range(t);
-    time_range(b"deadline", d);
+    range(b"deadline", d, 1, LATEST_DEADLINE, b": take a longer tick");
     if d == 0 {
         put::text(b"  a task without deadline has no D line\n");
     }
@@ -145,10 +146,12 @@ fn late(text: &[u8], place: usize) {
     put::text(b" stands behind ");
     put_letter(text, later);
     if (letter == b'U') & (0 < choice) & (choice < place) {
-        put::text(b": does a second plan begin here? A text has one plan. If not");
+        put::text(b": does a second plan begin here? A text has one plan. If not, move");
+    } else {
+        put::text(b"; move");
     }
     put::words(
-        b"; move the line up, above line ",
+        b" the line up, above line ",
         later as u64,
         b": the order is U, T, A, D, C\n",
     );

@@ -2,6 +2,7 @@
 use crate::cells;
 use crate::lines;
 use crate::put;
+use plan_text::MOST_DIGITS;
 
 const TAB: u8 = b'\t';
 
@@ -195,7 +196,7 @@ fn first_other(s: &[u8]) -> u8 {
 
 fn is_good(field: &[u8]) -> bool {
     let zero = (1 < field.len()) & (lines::byte(field, 0) == b'0');
-    (0 < field.len()) & (field.len() <= 7) & is_digit(first_other(field)) & !zero
+    (0 < field.len()) & (field.len() <= MOST_DIGITS) & is_digit(first_other(field)) & !zero
 }
 
 fn put_field_fault(field: &[u8]) {
@@ -210,8 +211,13 @@ fn put_field_fault(field: &[u8]) {
         put::text(b"is no number; is a newline missing before it?");
     } else if !is_digit(other) {
         put::text(b"has other characters than digits");
-    } else if 7 < field.len() {
-        put::text(b"has more than 7 digits; no number is above 1000000");
+    } else if MOST_DIGITS < field.len() {
+        put::words(
+            b"has more than ",
+            MOST_DIGITS as u64,
+            b" digits; no number is above ",
+        );
+        put::number(plan::LONGEST_TIME as u64);
     } else {
         put::text(b"begins with 0; leave that out");
     }

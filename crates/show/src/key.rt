@@ -10,14 +10,14 @@ fn deadline_key(s: Sets, x: u64, y: u64) {
     svg::flag(b"flag met", x, less(y, 5));
     svg::words(b"key", plus(x, 120), y, b"deadline of that task");
     if s.late != 0 {
-        svg::flag(b"flag", plus(x, 1300), less(y, 5));
-        svg::words(b"key", plus(x, 1420), y, b"missed");
-        svg::rect(b"late", plus(x, 2200), less(y, 105), 300, 140);
-        svg::words(b"key", plus(x, 2580), y, b"after the deadline");
+        svg::flag(b"flag", plus(x, 1500), less(y, 5));
+        svg::words(b"key", plus(x, 1620), y, b"missed");
+        svg::rect(b"late", plus(x, 2400), less(y, 105), 300, 140);
+        svg::words(b"key", plus(x, 2780), y, b"after the deadline");
     }
     if s.beyond != 0 {
-        svg::pointer(b"flag met", plus(x, 4275), less(y, 40));
-        svg::words(b"key", plus(x, 4340), y, b"deadline beyond the axis");
+        svg::pointer(b"flag met", plus(x, 4475), less(y, 40));
+        svg::words(b"key", plus(x, 4540), y, b"deadline beyond the axis");
     }
 }
 

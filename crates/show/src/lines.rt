@@ -6,7 +6,7 @@ use plan_text::Line;
 use plan_text::LineForm;
 
 // A text of more lines is refused for its length: each has its newline.
-const MOST_LINES: usize = 32768;
+const MOST_LINES: usize = plan_text::MOST_BYTES;
 
 // What is quoted of a line at most, and of a part of a line in a sentence.
 const MOST_OF_LINE: usize = 72;
