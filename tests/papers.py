@@ -59,12 +59,15 @@ def check_definitions(by_number):
 
 
 def check_map(by_number):
-    """Each rule has a row, each row a rule, and each edit that is named is there."""
+    """Each rule has a row and each row a rule; each edit that is named is there, and each that is there is named."""
     text = read(DOCS / "SPEC-MAP.md")
     rows = [row.split(" | ") for row in re.findall(r"^\| (\d.*) \|$", text, re.M)]
     named = {number for row in rows for number in re.findall(r"\d+\.\d+", row[0])}
     must(named == set(by_number), f"SPEC-MAP and RULES differ in {sorted(named ^ set(by_number))}")
-    known = {path.name for path in CRATES.iterdir()} | {path.stem for path in CRATES.glob("*/must-fail/*.edit")}
+    edits = {path.stem for path in CRATES.glob("*/must-fail/*.edit")}
+    known = {path.name for path in CRATES.iterdir()} | edits
+    for edit in sorted(edits):
+        must(re.search(rf"\b{edit}\b", text), f"SPEC-MAP: the edit {edit} guards no rule")
     for row in rows:
         for word in re.findall(r"\b[a-z]+(?:_[a-z0-9]+)+\b", re.sub("`[^`]*`", "", row[-1])):
             must(word in known, f"SPEC-MAP {row[0]}: there is no edit {word}")
