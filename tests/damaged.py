@@ -7,15 +7,15 @@ from collections import Counter
 from itertools import chain
 
 import facts
+import forms
 import order
 from plans import MOST_BYTES, random_plan, text_of
-from programs import MOST_OF_PART, TOP, Wrong, fail, hold, opening, quoted, refusal, run, same_lines, shown, stop
+from programs import TOP, Wrong, fail, hold, opening, quoted, refusal, run, same_lines, stop
 
 PLAN = (TOP / "tests/mistakes/plan.txt").read_bytes()
 OTHER_WORDS = [(), *((word,) for word in ["", "x", "-", "e", "explode", "explai", "explained", "Explain", "w", "whynot", "WHY", "pictures", "p"])]
 EXAMINED_FOR_OTHER_WORDS = 20
 LONGEST_LINE = 400
-FIELD = re.compile(r'number (\d+) of the line, "([^"]*)", ')
 SHOWN = re.compile(rb"(?:[ -~\n]|\xe2\x87\xa5|\xe2\x86\x92)*")
 
 # Bytes that are likelier than others: those of a plan text, and those that editors and spreadsheets leave behind.
@@ -142,18 +142,11 @@ def check_lines(text, number, place, lines):
     else:
         end = [quoted(text, max(place, 1)), *others_unformed(text, number)]
         hold(lines[-len(end) :] == end, f"the refused line is not quoted at the end, or the others are not counted: {lines}")
-        check_field(text, place, lines[0])
+        if number == 2:
+            forms.check(text, place, lines[0])
     for line in lines:
         is_list = "→" in line or re.search(r"tasks \d", line)
         hold(is_list or len(line.encode()) <= LONGEST_LINE, f"a line of {len(line.encode())} bytes:\n{line}")
-
-
-def check_field(text, place, sentence):
-    """A field that a sentence quotes is the one that it says, and it is none that rule 3.4 allows."""
-    if found := FIELD.search(sentence):
-        field = text.split(b"\n")[place - 1].split(b"\t")[int(found[1])]
-        hold(found[2] == shown(field, MOST_OF_PART), f"the field is {field}, and is quoted so: {found[2]}")
-        hold(not re.fullmatch(rb"0|[1-9]\d{0,6}", field), f"{field} is a number, and the sentence is: {sentence}")
 
 
 def check(text, is_examined):

@@ -74,6 +74,8 @@ def late(records, place):
 def unknown(records, place):
     letter, *numbers = records[place]
     if letter == "U":
+        if earlier := first({p: r for p, r in records.items() if p < place}, "U", numbers[0]):
+            return [f"type {numbers[0]} already has its U line: see line {earlier}"], [earlier, place]
         wrong = "is missing above, or this type is wrong: U lines give the types in order, from 0"
         return [f"the U line of type {place - 1} {wrong}"], [place]
     name, own = ("type", "U") if letter == "T" else ("task", "T")

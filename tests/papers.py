@@ -2,6 +2,7 @@
 
 Use: papers.py. It names what is wrong, and ends with status 1 if anything is.
 """
+import os
 import re
 import subprocess
 import sys
@@ -10,7 +11,7 @@ from pathlib import Path
 TOP = Path(__file__).resolve().parent.parent
 DOCS = TOP / "docs"
 CRATES = TOP / "crates"
-PROGRAMS = TOP / "target" / "bin"
+PROGRAMS = Path(os.environ.get("PROGRAMS", TOP / "target" / "bin")).resolve()
 wrong = []
 
 
@@ -85,7 +86,7 @@ def check_theorems():
 
 
 def output(program, text):
-    return subprocess.run([PROGRAMS / program[0], *program[1:]], input=text, capture_output=True, check=True).stdout.decode()
+    return subprocess.run([PROGRAMS / program[0], *program[1:]], input=text, capture_output=True, check=True, timeout=60).stdout.decode()
 
 
 def check_guide():

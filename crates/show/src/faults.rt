@@ -1,4 +1,5 @@
 // Refusals 3 to 7: what is wrong with a line that has one of the five forms.
+use crate::cells;
 use crate::checks;
 use crate::lines;
 use crate::names;
@@ -190,12 +191,17 @@ fn absent_tasks(text: &[u8], place: usize, from: u32, to: u32) {
     absent_task(text, place, to);
 }
 
-// Of a U line all lines before are U lines.
-fn next_type(place: usize) {
-    if 0 < place {
+// Of a U line all lines before are U lines, so that this one should be of the type after theirs; or it is there already.
+fn next_type(text: &[u8], place: usize, k: u32) {
+    let earlier = lines::find_one(text, b'U', k as u64);
+    if earlier < place {
+        put::words(b"type ", k as u64, b" already has its U line: see line ");
+        put::words(b"", earlier as u64, b"\n");
+        lines::quote(text, earlier);
+    } else {
         put::words(
             b"the U line of type ",
-            place as u64 - 1,
+            cells::less(place as u64, 1),
             b" is missing above, or this type is wrong: U lines give the types in order, from 0\n",
         );
     }
@@ -203,7 +209,7 @@ fn next_type(place: usize) {
 
 fn unknown(text: &[u8], place: usize, line: Line) {
     match line {
-        Line::Units(_, _) => next_type(place),
+        Line::Units(k, _) => next_type(text, place, k),
         Line::Times(_, k, _, _) => {
             put::text(b"the line names a type that has no U line above\n");
             absent(text, place, b"type", b"U", k);

@@ -16,7 +16,8 @@ pub fn is_utf16(s: &[u8]) -> bool {
     let a = lines::byte(s, 0);
     let b = lines::byte(s, 1);
     let marked = ((a == 255) & (b == 254)) | ((a == 254) & (b == 255));
-    marked | ((1 < s.len()) & ((a == 0) != (b == 0)))
+    let zeros = ((a == 0) & (lines::byte(s, 2) == 0)) | ((b == 0) & (lines::byte(s, 3) == 0));
+    marked | ((3 < s.len()) & zeros & ((a == 0) != (b == 0)))
 }
 
 pub fn put_utf16() {
@@ -43,6 +44,12 @@ fn first_visible(s: &[u8]) -> u8 {
 
 fn begins_comment(b: u8) -> bool {
     (b == b'#') | (b == b'/') | (b == b';') | (b == b'%') | (b == b'!')
+}
+
+// Two strokes, one behind the other.
+fn has_slashes(s: &[u8]) -> bool {
+    let i = lines::find_byte(s, 0, b'/');
+    lines::byte(s, lines::following(s, i)) == b'/'
 }
 
 fn is_letter(b: u8) -> bool {
@@ -89,9 +96,23 @@ fn width(b: u8) -> usize {
     }
 }
 
+// The length of the character at the front: its first byte, and those that go on with it.
+fn sign_length(s: &[u8]) -> usize {
+    let most = width(lines::byte(s, 0));
+    let mut i = 1;
+    while i < most {
+        let b = lines::byte(s, i);
+        if (b < 128) | (191 < b) {
+            return i;
+        }
+        i += 1;
+    }
+    most
+}
+
 fn put_beyond(s: &[u8]) {
     let rest = lines::part(s, first_beyond(s), s.len());
-    let sign = lines::part(rest, 0, width(lines::byte(rest, 0)));
+    let sign = lines::part(rest, 0, sign_length(rest));
     if is_tab_sign(rest) {
         put::text(b"the sign \xe2\x87\xa5 stands for a tab in the guide; type a tab");
     } else {
@@ -130,7 +151,7 @@ fn whole_line(s: &[u8]) -> bool {
         put::text(b"the line is blank; take it out: a plan text has no blank lines");
     } else if begins_comment(visible) {
         put::text(b"the line is a comment; take it out: a plan text has no comments");
-    } else if lines::has(s, b'#') | lines::has(s, b'/') {
+    } else if lines::has(s, b'#') | has_slashes(s) {
         put::text(
             b"the line has a comment; take it out, with the tab or spaces before it: a plan text has no comments",
         );
