@@ -37,7 +37,7 @@ fn widened(step: u64, i: usize, end: u64) -> u64 {
 }
 
 // The least step of 1, 2 or 5 times a power of ten of which sixteen reach the end.
-pub fn step_for(end: u64) -> u64 {
+fn step_for(end: u64) -> u64 {
     let mut step = 1;
     let mut i = 0;
     while i < WIDENED {

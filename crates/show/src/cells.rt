@@ -1,10 +1,10 @@
 // Entries of arrays of places, by task number or by lane, read and set behind a test of the index. Sums and differences of places,
-// which stay on the sheet.
+// which never go below 0 or out of their width.
 use crate::get;
 use plan::MOST_TASKS;
 use plan::MOST_TYPES;
 
-// No place lies farther, in tenths of a pixel, and no instant is later.
+// No place on a sheet lies as far, in tenths of a pixel, and no instant is as late: a sum stops here.
 const FARTHEST: u64 = 1000000000;
 
 pub fn place(of: &[u64; MOST_TASKS], i: usize) -> u64 {

@@ -36,7 +36,8 @@ fn show_plan(text: &[u8], as_picture: bool) {
     }
     let p = a.plan;
     let c = a.constraint;
-    if simulation::bound(p, c).number != 0 {
+    let v = plan::check(p, c);
+    if v.number != 0 {
         return;
     }
     if as_picture {

@@ -6,7 +6,7 @@ use plan::MOST_TASKS;
 // Where instant 0 lies, how long the axis is, and where it ends.
 pub const LEFT: u64 = 1150;
 
-pub const LENGTH: u64 = 10000;
+const LENGTH: u64 = 10000;
 
 pub const RIGHT: u64 = 11150;
 
