@@ -6,6 +6,7 @@ use crate::plan::*;
 use crate::reached::{Reached, TEXT, TICKS_OF_Z};
 use crate::reader::read;
 use crate::run::Times;
+use crate::schedule::{adopt, Record};
 use crate::simulate::{bound, simulate};
 use crate::state::{replay, start, State};
 use crate::timetable::{of_worst_times, timetable};
@@ -17,6 +18,8 @@ pub const TOO_LONG: usize = 1_024;
 pub const MOST_TIMES: usize = 80;
 /// Times of `Y`, reports of `Z`.
 pub const LONGEST_LIST: usize = 79;
+/// Records of `E`, until `L` takes them.
+pub const MOST_RECORDS: usize = 80;
 /// Bytes that may be lent.
 pub const MOST_ROOM: u64 = 2_000;
 
@@ -27,6 +30,10 @@ pub struct Driver {
     pub plan: Plan,
     pub constraint: Constraint,
     pub state: State,
+    /// The list for the next `L`.
+    pub records: Vec<Record>,
+    /// The greatest finish of the list that gave the constraint, as long as no `P` altered anything.
+    pub adopted: Option<u32>,
     pub out: Vec<u8>,
     pub reached: Reached,
 }
@@ -115,6 +122,8 @@ impl Driver {
             plan: Plan::zero(),
             constraint: Constraint::zero(),
             state: State::zero(),
+            records: Vec::new(),
+            adopted: None,
             out: Vec::new(),
             reached: Reached::default(),
         };
@@ -154,6 +163,8 @@ impl Driver {
             (b'D', []) => self.margins(),
             (b'S', []) => self.start(),
             (b'Q', []) => self.query(),
+            (b'E', &[task, kind, start, finish]) => self.put_record([task, kind, start, finish])?,
+            (b'L', []) => self.adopt(),
             (b'M', times) if times.len() <= MOST_TIMES => self.simulate(&short(times)?),
             (b'T', &[report]) => self.tick(report),
             (b'W', &[room]) if room <= MOST_ROOM => self.worst_timetable(room as usize),
@@ -164,6 +175,7 @@ impl Driver {
             (b'P' | b'R', &[part, index, value]) => {
                 let fits = self.slot(letter, part, index)?.put(value);
                 fits.then(|| self.line("put", &NONE))?;
+                self.adopted.take_if(|_| letter == b'P');
             }
             _ => return None,
         }
@@ -196,13 +208,15 @@ impl Driver {
 
     fn check(&mut self) {
         let answer = check(&self.plan, &self.constraint);
+        self.reached.note_adopted("K", self.adopted, &answer.map(|()| None));
         self.say("K", "check", answer.err().as_ref(), &NONE);
     }
 
     fn bound(&mut self) {
         let answer = bound(&self.plan, &self.constraint);
-        let response = answer.as_ref().map_or(0, |t| t.response as u64);
-        self.say("B", "bound", answer.err().as_ref(), &[response]);
+        let answer = answer.map(|run| run.response);
+        self.reached.note_adopted("B", self.adopted, &answer.map(Some));
+        self.say("B", "bound", answer.err().as_ref(), &[answer.unwrap_or(0)]);
     }
 
     fn margins(&mut self) {
@@ -255,6 +269,33 @@ impl Driver {
         let mut fields = vec![s.instant as u64, s.started, s.finished];
         fields.extend(starts_and_finishes(&s.starts, &s.finishes));
         self.line("state", &fields);
+    }
+
+    /// One more record for the list; nothing if there is no room or a field does not fit.
+    fn put_record(&mut self, fields: [u64; 4]) -> Option<()> {
+        let kept = self.records.len();
+        let fitting = short(&fields).filter(|_| kept < MOST_RECORDS);
+        self.reached.note_record(&fields, kept, fitting.is_some());
+        let &[task, unit_type, start, finish] = &fitting?[..] else { return None };
+        self.records.push(Record { task, unit_type, start, finish });
+        self.line("put", &NONE);
+        Some(())
+    }
+
+    /// Takes the list. A refusal leaves the kept constraint alone.
+    fn adopt(&mut self) {
+        let records = std::mem::take(&mut self.records);
+        let answer = adopt(&self.plan, &records);
+        self.reached.note_list("L", &self.plan, &records, &answer);
+        let zero = Constraint::zero();
+        let Constraint { length, task, kind } = answer.as_ref().unwrap_or(&zero);
+        let mut rest = vec![*length];
+        rest.extend((0..TASKS).flat_map(|p| [task[p], kind[p]]));
+        self.say("L", "adopt", answer.as_ref().err(), &rest);
+        if let Ok(constraint) = answer {
+            self.constraint = constraint;
+            self.adopted = records.iter().map(|record| record.finish).max();
+        }
     }
 
     fn worst_timetable(&mut self, room: usize) {

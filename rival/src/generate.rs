@@ -4,6 +4,7 @@ use crate::driver::{Driver, LONGEST_LIST, MOST_ROOM, MOST_TIMES, TOO_LONG};
 use crate::edges;
 use crate::inputs::{self, EDGES};
 use crate::limits::*;
+use crate::lists;
 use crate::plan::*;
 use crate::random::Random;
 use crate::simulate::{bound, worst_times};
@@ -56,7 +57,7 @@ impl Session {
         }
         self.longest_run();
         // In every third session about half of the commands are timetables of given times and replays.
-        let kinds = if self.random.once_in(3) { 32 } else { 20 };
+        let kinds = if self.random.once_in(3) { 35 } else { 23 };
         for _ in 0..if accepted { self.random.from(6, 30) } else { 4 } {
             let kind = self.random.below(kinds);
             self.write_some(kind);
@@ -86,10 +87,11 @@ impl Session {
             10 => self.give("S"),
             11..=13 => self.ticks(),
             14 => self.alter_order(),
-            15 | 20..=25 => self.timetable(),
+            15 | 23..=28 => self.timetable(),
             17 => self.give("D"),
             18 if self.random.once_in(3) => self.alter_worst(),
             18 | 19 => self.alter_deadline(),
+            20..=22 => self.adopt(),
             _ => self.replay(),
         }
     }
@@ -146,6 +148,36 @@ impl Session {
         let Driver { plan, constraint, .. } = &self.driver;
         let reports = inputs::reports(&mut self.random, plan, constraint);
         self.give_list("Z", &reports);
+    }
+
+    /// A list and `L`, now and then with something in between; then the bound of what was adopted.
+    fn adopt(&mut self) {
+        if !self.driver.records.is_empty() && !self.random.once_in(6) {
+            self.give("L");
+        }
+        self.put_records();
+        match self.random.below(12) {
+            0 => self.ticks(),
+            1 => self.ask(),
+            _ => {}
+        }
+        self.give("L");
+        if self.driver.adopted.is_none() {
+            return;
+        }
+        self.give("B");
+        match self.random.below(4) {
+            0 => self.give("K"),
+            1 => self.ask(),
+            _ => {}
+        }
+    }
+
+    /// The records of a list for the kept plan.
+    fn put_records(&mut self) {
+        for row in lists::list(&mut self.random, &self.driver.plan) {
+            self.give_list("E", &row);
+        }
     }
 
     /// Room around what the timetable of these times needs, or none, or any.
@@ -210,8 +242,16 @@ impl Session {
     }
 
     fn alter_plan(&mut self) {
-        let back = self.put('P', &[0, 1, 2, 3, 4, 5, 5, 6, 7, 7, 8, 8, 9, 14, 14]);
-        self.ask();
+        let back = if self.random.once_in(4) {
+            self.put_records();
+            let back = self.put('P', &[0, 1, 1, 2, 3, 4, 4, 5, 5, 14]);
+            self.give("L");
+            back
+        } else {
+            let back = self.put('P', &[0, 1, 2, 3, 4, 5, 5, 6, 7, 7, 8, 8, 9, 14, 14]);
+            self.ask();
+            back
+        };
         if let Some(back) = back.filter(|_| !self.random.once_in(12)) {
             self.give(&back);
         }
@@ -275,7 +315,8 @@ impl Session {
 
     /// Whether to alter the plan or a state that takes a tick, and what to ask then.
     fn plan_or_state(&mut self) -> (char, &'static str) {
-        let commands = [('P', "D"), ('P', "D"), ('P', "K"), ('P', "S"), ('P', "any"), ('R', "T")];
+        let commands =
+            [('P', "D"), ('P', "D"), ('P', "K"), ('P', "S"), ('P', "L"), ('P', "any"), ('R', "T")];
         let (letter, then) = self.random.pick(&commands);
         if letter == 'R' && self.last_in_time().is_none() {
             self.give("S");
@@ -288,6 +329,7 @@ impl Session {
         match command {
             "T" => self.legal_tick(),
             "any" => self.ask(),
+            "L" => self.adopt(),
             _ => self.give(command),
         }
     }
@@ -442,6 +484,10 @@ impl Session {
             "D\t", "D\t0", "d", "D ", "DD", "P\t13\t0\t0", "P\t15\t0\t0", "P\t14\t0", "P\t14\t0\t4294967296",
             "R\t14\t0\t4294967296", "P\t14\t0\t-1",
             "R\t9\t0\t4294967296", "M\t", "\tK", "KK", "M\t4294967296", "Y\t", "Y\t9\t", "Y\t9\t-1",
+            "E", "E\t", "E\t0\t0\t0", "E\t0\t0\t0\t", "E\t0\t0\t0\t1\t0", "E\t0\t0\t-1\t0", "e\t0\t0\t0\t1",
+            "E\t0\t0\t0\t1", "E\t0\t0\t0\t00000000000000000001", "E\t0\t0\t0\t000000000000000000001",
+            "E\t4294967295\t4294967295\t4294967295\t4294967295", "E\t0\t0\t0\t18446744073709551616",
+            "L\t", "L\t0", "L ", "l", "LL", "L", "EL", "E 0 0 0 1",
             "Y\t9\t4294967296", "Z\t", "Z\t-1", "Z\t0\t", "Z\t1\t18446744073709551616", "Z\t18446744073709551615",
         ];
         let beyond = [

@@ -5,16 +5,18 @@ use crate::check::keeps_the_rules;
 use crate::edges;
 use crate::limits::*;
 use crate::lines::{cases_of_line, FIELDS, LINES};
+use crate::list_cases::*;
 use crate::margins::{margins, with_deadline, Margins};
 use crate::plan::*;
 use crate::reader::read;
+use crate::schedule::Record;
 use crate::simulate::worst_times;
 use crate::state::State;
 use crate::timetable;
 use std::collections::BTreeMap;
 
 /// The greatest refusal number.
-const LAST: u64 = 19;
+const LAST: u64 = 22;
 
 /// No refusal has this number.
 const UNUSED: u64 = 15;
@@ -24,6 +26,9 @@ pub const TEXT: &str = "text";
 
 /// The ticks of a replay, which have no letter of their own.
 pub const TICKS_OF_Z: &str = "Z's ticks";
+
+/// The lines `E` that have four numbers and are answered `bad`.
+pub const BAD_E: &str = "bad E";
 
 /// The numbers and cases that one command must have answered.
 type Asked = (&'static str, &'static [u64], &'static [Case]);
@@ -36,10 +41,21 @@ const ASKED_OF_LINES: [Asked; 3] = [
 ];
 
 /// Of sessions, each by itself.
-const ASKED: [Asked; 15] = [
+const ASKED: [Asked; 26] = [
+    ("B", &[], &[ADOPTED, BOUND_BELOW, BOUND_EQUAL]),
     ("D", &[0, 8, 9, 10, 11], &MARGINS),
     ("D", &[], &FAULTS),
+    ("E", &[], &[FIRST_PUT, LAST_PUT]),
+    ("E", &[], FIELDS_PUT.as_flattened()),
+    (BAD_E, &[], &NOT_PUT),
     ("K", &[], &FAULTS),
+    ("K", &[], &[ADOPTED]),
+    ("L", &[0, 8, 20, 21, 22], &ACCEPTED),
+    ("L", &[], &FAULTS),
+    ("L", &[], &COUNTS),
+    ("L", &[], &RECORDS),
+    ("L", &[], PLACES.as_flattened()),
+    ("L", &[], &[LATER_FAULTS[0].1, LATER_FAULTS[1].1, LATER_FAULTS[2].1]),
     ("M", &[], &TIMES),
     ("M", &[], &TIME_EDGES),
     ("S", &[], &FAULTS),
@@ -171,6 +187,41 @@ impl Reached {
         self.add_cases(command, cases.into_iter().filter(|(so, _)| *so).map(|(_, case)| case));
     }
 
+    /// Notes the cases of a record that is kept, or not, after so many others.
+    pub fn note_record(&mut self, fields: &[u64; 4], before: usize, kept: bool) {
+        match kept {
+            true => self.add_cases("E", cases_of_put(fields, before)),
+            false => self.add_cases(BAD_E, cases_of_not_put(fields, before)),
+        }
+    }
+
+    /// Notes the cases of a list that is answered so.
+    pub fn note_list<T>(
+        &mut self,
+        command: &'static str,
+        plan: &Plan,
+        records: &[Record],
+        answer: &Result<T, Refusal>,
+    ) {
+        self.add_cases(command, cases_of_list(plan, records, answer));
+    }
+
+    /// Notes the cases of a command that answers so, perhaps with a response, if the constraint
+    /// comes from a list with this greatest finish.
+    pub fn note_adopted(
+        &mut self,
+        command: &'static str,
+        finish: Option<u32>,
+        answer: &Result<Option<u32>, Refusal>,
+    ) {
+        let Some(finish) = finish else { return };
+        let number = answer.err().map_or(0, |refusal| refusal.number);
+        self.add_cases(command, [case_of_adopted(number)]);
+        if let Ok(Some(response)) = *answer {
+            self.add_cases(command, [case_of_bound(response, finish)]);
+        }
+    }
+
     /// Notes the cases of a simulation or timetable that answers these times so.
     pub fn note_times<T>(
         &mut self,
@@ -262,19 +313,27 @@ impl Reached {
         }
     }
 
-    /// Each refusal that no command gave, what was asked of one command and not given by it, and
-    /// the number that no refusal has, if one was given with it.
+    /// Each refusal that no command gave, what was asked of one command and not given by it, the
+    /// number that no refusal has, if one was given with it, and what an adopted list never gives.
     pub fn faults(&self) -> Vec<String> {
         let used = (1..=LAST).filter(|&n| n != UNUSED);
         let by_none = used.filter(|&n| self.total(n) == 0).map(|n| format!("never reached: {n}"));
         let unused = (self.total(UNUSED) > 0).then(|| format!("given: {UNUSED}"));
         let by_one = [self.never_given(&ASKED_OF_LINES), self.never_given(&ASKED)].concat();
-        by_none.chain(by_one).chain(unused).collect()
+        by_none.chain(by_one).chain(unused).chain(self.wrongly_given()).collect()
     }
 
     /// What was asked of the texts for a program and not met in them.
     pub fn faults_of_texts(&self) -> Vec<String> {
         [self.never_given(&ASKED_OF_LINES), self.never_given(&ASKED_OF_TEXTS)].concat()
+    }
+
+    fn wrongly_given(&self) -> Vec<String> {
+        let by_one = ["B", "K"].into_iter().flat_map(|command| {
+            let given = NEVER.into_iter().filter(|&case| self.times_of_case(command, case) > 0);
+            given.map(move |case| format!("given: {} by {command}", name(case)))
+        });
+        by_one.collect()
     }
 
     fn never_given(&self, asked: &[Asked]) -> Vec<String> {

@@ -6,13 +6,16 @@ ghost use Rattle.plan.specs.Buffers.{atStart};
 ghost use Rattle.plan.specs.Refusals.{verdict};
 ghost use Rattle.plan_text.specs.Text.{readText};
 ghost use Rattle.dispatch_theory.specs.Sums.{sum};
-ghost use Rattle.runs.specs.Running.{worst};
+ghost use Rattle.runs.specs.Running.{bound, worst};
 ghost use Rattle.simulation.specs.Simulated.{simulated, worstCase};
+ghost use Rattle.adoption.specs.Schedules.{adopted, greatestFinish, listed};
 ghost use Rattle.slack.specs.Margins.{InRange, slacksOf};
 ghost use Rattle.timetable.specs.Table.{bufferAfter, timetabled, worstBufferAfter, worstTimetabled};
 ghost use Rattle.bench_answer.specs.Answer.{answerText};
 ghost use Rattle.live.specs.Replays.{Replays};
 ghost use Rattle.live.specs.Ticks.{started, ticked};
+use adoption::Adoption;
+use adoption::Record;
 use bench_answer::MOST_ANSWER;
 use live::Replayed;
 use live::State;
@@ -79,6 +82,16 @@ pub extern "C" fn bench_margins(p: Plan, c: Constraint) -> Slacks
     ensures { λ r. ⌜ (r ≡ slacksOf p c) × InRange (r .slacks) ⌝ }
 {
     slack::slacks_of(p, c)
+}
+
+// A reference to structs has no checked form: this is proved by hand.
+#[no_mangle]
+pub extern "C" fn bench_adopt(p: Plan, records: &[Record]) -> Adoption
+    ensures { λ r. ⌜ r ≡ adopted p (listed (now (records .entry))) ⌝ }
+    ensures passes { λ r. ⌜ (r .number ≡ 0 → verdict p (r .constraint) .number ≡ 0) ⌝ }
+    ensures in_time { λ r. ⌜ (r .number ≡ 0 → bound p (r .constraint) ≤ greatestFinish (listed (now (records .entry)))) ⌝ }
+{
+    adoption::adopt(p, records)
 }
 
 #[no_mangle]

@@ -17,12 +17,13 @@ pub record Lawful (may : Gate) (n : ℕ) (hold : ℕ → ℕ) (base : ℕ) : Typ
   -- with every earlier position finished, and held for its time, the gate is open from the instant base on
   pub opens : (F : ℕ → ℕ) (k s : ℕ) → k < n → ((j : ℕ) → j < k → F j + hold j ≤ s) → base ≤ s → may F k s ≡ true
 
--- it looks at the positions below k alone
-pub local : {may : Gate} {n : ℕ} {hold : ℕ → ℕ} {base : ℕ} → Lawful may n hold base
-    → (F G : ℕ → ℕ) (k s : ℕ) → k < n → ((j : ℕ) → j < k → F j ≡ G j) → may F k s ≡ may G k s
-local {may} L F G k s m h =
-    same (may F k s) (may G k s) (sooner G F (λ j l. le-of-eq (sym (h j l)))) (sooner F G (λ j l. le-of-eq (h j l)))
-  where
-    -- earlier finishes never close a gate
-    sooner : (F G : ℕ → ℕ) → ((j : ℕ) → j < k → F j ≤ G j) → may G k s ≡ true → may F k s ≡ true
-    sooner F G h e = rw add-zero at (L .shift F G k s 0 m (λ j l. rw add-zero (h j l)) e)
+module _ {may : Gate} {n : ℕ} {hold : ℕ → ℕ} {base : ℕ} (L : Lawful may n hold base) where
+  -- earlier finishes never close a gate
+  pub sooner : (F G : ℕ → ℕ) (k s : ℕ) → k < n → ((j : ℕ) → j < k → F j ≤ G j) → may G k s ≡ true → may F k s ≡ true
+  sooner F G k s m h e = rw add-zero at (L .shift F G k s 0 m (λ j l. rw add-zero (h j l)) e)
+
+  -- it looks at the positions below k alone
+  pub local : (F G : ℕ → ℕ) (k s : ℕ) → k < n → ((j : ℕ) → j < k → F j ≡ G j) → may F k s ≡ may G k s
+  local F G k s m h =
+      same (may F k s) (may G k s) (sooner G F k s m (λ j l. le-of-eq (sym (h j l))))
+      (sooner F G k s m (λ j l. le-of-eq (h j l)))

@@ -13,7 +13,7 @@ use Rattle.task_set.proofs.Truth.{clash, by-test}
 use Rattle.task_set.proofs.Search.{First, first-is, first-passes}
 use Rattle.dispatch_theory.specs.Sums.{sum, greatest}
 use Rattle.dispatch_theory.proofs.Sums.{strong, sum-mono, sum-part, sum-zero, greatest-lub, greatest-le}
-use Rattle.dispatch_theory.proofs.Gate.{Gate, Lawful}
+use Rattle.dispatch_theory.proofs.Gate.{Gate, Lawful, sooner}
 
 -- the finish instants of starts S and durations d
 abbrev pub ends : (ℕ → ℕ) → (ℕ → ℕ) → ℕ → ℕ
@@ -101,6 +101,16 @@ module _ {may : Gate} {n : ℕ} {hold : ℕ → ℕ} {base : ℕ} (L : Lawful ma
 
       past : (j : ℕ) → j < r → S j + held j ≤ i
       past j t = omega (arith, ltb-false, f .searched .before j t)
+
+  -- ---- beside any other starts
+
+  -- greedy starts are the least: none is later than in starts x that never fall along the order, where each gate is open at its
+  -- start by x's own finishes
+  pub earliest : (x : ℕ → ℕ) → ((k j : ℕ) → j < k → k < n → x j ≤ x k) → ((k : ℕ) → k < n → may (ends x d) k (x k) ≡ true)
+      → (k : ℕ) → k < n → S k ≤ x k
+  earliest x up opens =
+      within g x up
+      (λ k l ih. sooner L (ends S d) (ends x d) k (x k) l (λ j h. add-le-add (ih j h) (le-refl (d j))) (opens k l))
 
   -- ---- beside another run, with durations d′
 

@@ -2,6 +2,8 @@
 use crate::fields;
 use crate::output;
 use crate::put;
+use crate::schedules;
+use adoption::Schedule;
 use live::State;
 use plan::Constraint;
 use plan::MOST_TASKS;
@@ -14,6 +16,7 @@ pub struct Kept {
     pub plan: Plan,
     pub constraint: Constraint,
     pub state: State,
+    pub schedule: Schedule,
 }
 
 fn no_state() -> State {
@@ -34,10 +37,12 @@ pub fn nothing() -> Kept {
     let plan = plan::no_plan();
     let constraint = plan::no_constraint();
     let state = no_state();
+    let schedule = schedules::none();
     Kept {
         plan,
         constraint,
         state,
+        schedule,
     }
 }
 
@@ -48,10 +53,12 @@ pub fn text(s: &[u8]) -> Kept {
     let plan = a.plan;
     let constraint = a.constraint;
     let state = no_state();
+    let schedule = schedules::none();
     Kept {
         plan,
         constraint,
         state,
+        schedule,
     }
 }
 
@@ -90,6 +97,7 @@ fn counted(k: Kept, letter: u8, values: &[u64; fields::MOST], count: usize) -> K
         0 => bare(k, letter),
         1 => with_one(k, letter, values),
         3 => with_three(k, letter, values[0], values[1], values[2]),
+        4 => with_four(k, letter, values),
         _ => neither(k),
     }
 }
@@ -107,6 +115,7 @@ fn bare(k: Kept, letter: u8) -> Kept {
         b'D' => margins(k),
         b'S' => start(k),
         b'Q' => state(k),
+        b'L' => adopt(k),
         _ => neither(k),
     }
 }
@@ -127,6 +136,13 @@ fn with_three(k: Kept, letter: u8, part: u64, index: u64, value: u64) -> Kept {
     match letter {
         b'P' => put_kept(k, part, i, value),
         b'R' => put_state(k, part, i, value),
+        _ => neither(k),
+    }
+}
+
+fn with_four(k: Kept, letter: u8, values: &[u64; fields::MOST]) -> Kept {
+    match letter {
+        b'E' => put_record(k, values),
         _ => neither(k),
     }
 }
@@ -191,10 +207,12 @@ fn simulate_first(k: Kept, times: &[u32; fields::MOST], count: usize) {
 fn with_run(k: Kept, state: State) -> Kept {
     let plan = k.plan;
     let constraint = k.constraint;
+    let schedule = k.schedule;
     Kept {
         plan,
         constraint,
         state,
+        schedule,
     }
 }
 
@@ -319,11 +337,13 @@ fn put_kept(k: Kept, part: u64, i: usize, value: u64) -> Kept {
     let plan = put::into_plan(k.plan, part, i, value);
     let constraint = put::into_constraint(k.constraint, part, i, value);
     let state = k.state;
+    let schedule = k.schedule;
     output::write_text(b"put");
     Kept {
         plan,
         constraint,
         state,
+        schedule,
     }
 }
 
@@ -331,4 +351,35 @@ fn put_state(k: Kept, part: u64, i: usize, value: u64) -> Kept {
     let state = put::into_state(k.state, part, i, value);
     output::write_text(b"put");
     with_run(k, state)
+}
+
+fn put_record(k: Kept, values: &[u64; fields::MOST]) -> Kept {
+    if !schedules::takes(k.schedule, values) {
+        return neither(k);
+    }
+    let schedule = schedules::with(k.schedule, values);
+    output::write_text(b"put");
+    with_list(k, k.constraint, schedule)
+}
+
+fn with_list(k: Kept, constraint: Constraint, schedule: Schedule) -> Kept {
+    let plan = k.plan;
+    let state = k.state;
+    Kept {
+        plan,
+        constraint,
+        state,
+        schedule,
+    }
+}
+
+// The list is empty again. The constraint of an accepted one is kept.
+fn adopt(k: Kept) -> Kept {
+    let a = adoption::adopt_schedule(k.plan, k.schedule);
+    schedules::write_adoption(a);
+    let empty = schedules::none();
+    if a.number == 0 {
+        return with_list(k, a.constraint, empty);
+    }
+    with_list(k, k.constraint, empty)
 }

@@ -17,6 +17,10 @@
 //                    0 to 79 reports; the run state stays
 //   P part i value   put: a value into the kept plan or constraint
 //   R part i value   put: a value into the run state, or into its own plan or constraint
+//   E task type start finish
+//                    put: one more record of a schedule, at most 80
+//   L                adopt number place length, then the task and the type of entries 0 to 63 of the constraint that the
+//                    schedule gives: it is kept if accepted. The list of records is empty again
 //
 // Parts: 0 types, 1 units, 2 tasks, 3 best, 4 worst, 5 predecessors, 6 length, 7 an entry's task, 8 an entry's type,
 // 14 deadlines; for R also 9 instant, 10 count of started, 11 finished set, 12 starts, 13 finishes. The index is 0 where the
@@ -28,6 +32,7 @@ mod fields;
 mod input;
 mod output;
 mod put;
+mod schedules;
 
 use commands::Kept;
 use input::Window;

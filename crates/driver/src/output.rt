@@ -81,6 +81,23 @@ pub fn put_times<'a>(
     end
 }
 
+// The task and the type of each entry of a constraint.
+pub fn put_entries<'a>(
+    out: &mut [u8; WIDTH],
+    at: usize,
+    order: &'a [usize; MOST_TASKS],
+    chosen: &'a [usize; MOST_TASKS],
+) -> usize {
+    let mut end = at;
+    let mut i = 0;
+    while i < MOST_TASKS {
+        end = put_number(out, end, order[i] as u64);
+        end = put_number(out, end, chosen[i] as u64);
+        i += 1;
+    }
+    end
+}
+
 fn write_front(out: &[u8], n: usize) {
     if n <= out.len() {
         io::write_all(STDOUT_FILENO, &out[..n]);

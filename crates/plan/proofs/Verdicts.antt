@@ -1,13 +1,14 @@
 -- The verdict, as the check comes to it, and what it leaves where nothing is refused. Assumes nothing.
-use mathlib.Core.Path.{_≡_, refl, ap, _∙_}
+use mathlib.Core.Path.{_≡_, refl, sym, ap, _∙_}
 use mathlib.Core.Bool.{Bool, true, false, cond, not}
 use Prim.Native.Nat.{ℕ, _<_}
+use native.Mathlib.Nat.{le-refl}
 use native.Mathlib.Omega.{arith}
-use borrow.Author.Tests.{eq-eqb, eqb-true, ltb-false, not-false}
+use borrow.Author.Tests.{eq-eqb, eqb-true, le-ltb, ltb-false, not-false}
 use lib.Dec.{eqb, ltb}
 use Rattle.task_set.specs.Bounded.{first}
 use Rattle.task_set.proofs.Truth.{by-test}
-use Rattle.task_set.proofs.Search.{first-cong, first-none}
+use Rattle.task_set.proofs.Search.{first-absent, first-cong, first-none}
 use Rattle.plan.specs.declared.Plan.{Plan}
 use Rattle.plan.specs.declared.Constraint.{Constraint}
 use Rattle.plan.specs.declared.Verdict.{Verdict}
@@ -65,6 +66,15 @@ module _ (p : Plan) (c : Constraint) where
           ∙ unless-by 10 n at-10 past-10 ey
 
   -- ---- nothing is refused
+
+  -- where no position is at fault
+  pub accepts : planOk p ≡ true → c .len ≡ p .tasks → ((i : ℕ) → i < p .tasks → at-9 i ≡ false)
+      → ((i : ℕ) → i < p .tasks → at-10 i ≡ false) → ((i : ℕ) → i < p .tasks → unmet (p .predecessors) (c .order) i ≡ false)
+      → verdict p c ≡ noRefusal
+  accepts kept whole nine ten eleven =
+      sym (rw (le-ltb (p .tasks) (p .tasks) (le-refl (p .tasks))) at
+      (order-by kept whole (first-absent (p .tasks) at-9 nine) (first-absent (p .tasks) at-10 ten)
+      (first-absent (p .tasks) (unmet (p .predecessors) (c .order)) eleven)))
 
   pub record Passed : Type 0 where
     pub kept : planOk p ≡ true

@@ -3,7 +3,8 @@ use mathlib.Core.Path.{_≡_, refl, sym, ap, ap₂, _∙_, subst}
 use mathlib.Core.Bool.{Bool, true, false, cond, _&&_, _||_, not, and-true, and-assoc, or-false}
 use mathlib.Core.Logic.{_⊎_, inl, inr}
 use Prim.Native.Nat.{ℕ, zero, suc, _+_, _*_, _≤_, _<_, zero-le}
-use native.Mathlib.Nat.{add-le-add, add-zero, add-suc, zero-mul, suc-mul, le-refl, le-of-suc-le-suc, not-suc-le-zero, le-step, lt-suc-self, eq-or-lt-of-le}
+use native.Mathlib.Nat.{add-le-add, add-zero, add-suc, zero-mul, suc-mul, le-refl, le-trans, le-of-eq, le-of-suc-le-suc, not-suc-le-zero, le-step, lt-suc-self, eq-or-lt-of-le}
+use native.Mathlib.Decide.{le-ind}
 use native.Mathlib.Numerals.{add-one}
 use native.Mathlib.Omega.{arith}
 use borrow.Author.Tests.{eq-eqb, eqb-true, ne-eqb, ltb-true, ltb-false, lt-ltb}
@@ -119,6 +120,9 @@ pub any-next : (n : ℕ) (p : ℕ → Bool) → any (n + 1) p ≡ any n p || p n
 unfolding any
 any-next n p = ap (λ (k : ℕ). any k p) (add-one n)
 
+pub any-step : (n : ℕ) {a b : Bool} (p : ℕ → Bool) → a ≡ any n p → b ≡ p n → a || b ≡ any (n + 1) p
+any-step n p e f = ap₂ _||_ e f ∙ sym (any-next n p)
+
 -- ---- how many
 
 pub count-cong : (n : ℕ) (p q : ℕ → Bool) → ((i : ℕ) → i < n → p i ≡ q i) → count n p ≡ count n q
@@ -209,3 +213,24 @@ count-bound zero p b h = zero-le
 count-bound (suc n) p b h =
     by-test (p n) (λ e. rw e (omega (arith, h n (lt-suc-self n) e)))
     (λ e. rw e (omega (arith, count-bound n p b (λ m l. h m (le-step l)))))
+
+-- no fewer below a greater number, and more past one that passes
+count-grows : (k n : ℕ) (p : ℕ → Bool) → k ≤ n → count k p ≤ count n p
+unfolding count
+count-grows k n p = le-ind (λ m. count k p ≤ count m p) (le-refl (count k p)) (λ m l h. omega (arith, h)) n
+
+pub count-less : (n : ℕ) (p : ℕ → Bool) (k : ℕ) → k < n → p k ≡ true → count k p < count n p
+unfolding count
+count-less n p k l e = le-trans (rw e (omega arith)) (count-grows (suc k) n p l)
+
+-- a loop's next step
+count-next : (n : ℕ) (p : ℕ → Bool) → count (n + 1) p ≡ count n p + cond (p n) 1 0
+unfolding count
+count-next n p = ap (λ (k : ℕ). count k p) (add-one n)
+
+pub count-step : (n : ℕ) {x y : ℕ} (p : ℕ → Bool) → x ≡ count n p → y ≡ cond (p n) 1 0 → x + y ≡ count (n + 1) p
+count-step n p e f = ap₂ _+_ e f ∙ sym (count-next n p)
+
+-- and no more are counted than there are
+pub count-room : (n : ℕ) {x y : ℕ} (p : ℕ → Bool) → x ≡ count n p → y ≡ cond (p n) 1 0 → x + y ≤ n + 1
+count-room n p e f = le-trans (le-of-eq (count-step n p e f)) (count-le (n + 1) p)

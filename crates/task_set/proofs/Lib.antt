@@ -13,3 +13,9 @@ pub mod Cover
 pub mod Members
 -- lists by index
 pub mod Tables
+-- an order by a key, and then by number
+pub mod Keyed
+-- places in an order: how many stand before
+pub mod Ranking
+-- lists that a loop fills by place
+pub mod Seats

@@ -92,6 +92,10 @@ search-ended {n} {p} {i} h l =
       passes = λ m. absurd (omega arith);
     })
 
+-- nothing passes at all
+pub first-absent : (n : ℕ) (p : ℕ → Bool) → ((i : ℕ) → i < n → p i ≡ false) → n ≡ first n p
+first-absent n p h = search-ended (record { within = le-refl n; before = h }) (le-refl n)
+
 -- ---- what a result tells
 
 -- nothing passes below the bound

@@ -6,16 +6,18 @@ use mathlib.Core.List.{List, [], _∷_, _++_}
 use Prim.Native.Nat.{ℕ, zero, suc}
 use lib.Dec.{eqb}
 use lib.IntN.{ℤ, pos, negsuc}
-use lib.ListN.{replicate}
+use lib.ListN.{take, replicate}
 use Rattle.task_set.specs.Bounded.{tabulate}
 use Rattle.plan.specs.declared.Plan.{Plan}
 use Rattle.plan.specs.declared.Constraint.{Constraint}
 use Rattle.plan.specs.declared.Verdict.{Verdict}
 use Rattle.plan.specs.Rules.{lastInstant, timeOf}
 use Rattle.plan.specs.Refusals.{noPlan, noConstraint, verdict}
-use Rattle.runs.specs.Running.{typeOf, worst, orZero, ended, response}
+use Rattle.runs.specs.Running.{typeOf, worst, orZero, ended, response, bound}
 use Rattle.runs.specs.Journal.{Answer, openingAnswer, journal, answers}
 use Rattle.simulation.specs.Simulated.{simulationVerdict}
+use Rattle.adoption.specs.declared.Record.{Record}
+use Rattle.adoption.specs.Schedules.{listed as scheduled, greatestFinish, adopted}
 use Rattle.slack.specs.declared.Slacks.{Slacks}
 use Rattle.slack.specs.Margins.{slackAt, slacksOf, leastSlack, greatestSlack}
 use Rattle.worked_examples.specs.PlanA.{planOne, planLong, planDue, planA, fiveEntries, orderA, orderB}
@@ -74,6 +76,24 @@ lasting time = check (planLong time) orderA
 unfoldable pub due : ℕ → ℕ → List ℕ
 due d absent = check (planDue (0 ∷ 0 ∷ 0 ∷ 0 ∷ d ∷ absent ∷ [])) orderA
 
+-- a record of a schedule: task, type, start and finish
+abbrev pub rec : ℕ → ℕ → ℕ → ℕ → Record
+rec task type start finish = record { task = task; «unit_type» = type; start = start; finish = finish }
+
+-- what becomes of a list: number, place and length of the constraint
+unfoldable pub adopt : List Record → List ℕ
+adopt records = let a = adopted planA (scheduled records) in a .number ∷ a .place ∷ a .constraint .len ∷ []
+
+-- of an accepted one the first six tasks and types too, the bound and the list's greatest finish
+unfoldable pub adoptFully : List Record → List ℕ
+adoptFully records =
+    let c = adopted planA (scheduled records) .constraint in
+    adopt records ++ take 6 (c .order) ++ take 6 (c .chosen) ++ bound planA c ∷ greatestFinish (scheduled records) ∷ []
+
+-- plan A's timetable as a list, with task 4 like this
+abbrev pub fourth : ℕ → ℕ → ℕ → List Record
+fourth type start finish = rec 0 0 0 2 ∷ rec 1 0 2 5 ∷ rec 2 1 2 6 ∷ rec 3 1 5 8 ∷ rec 4 type start finish ∷ []
+
 -- ---- the table: what is computed, and what the documents say that it is
 
 pub record Row : Type 0 where
@@ -92,13 +112,33 @@ limitTable =
     ∷ row (lastInstant ∷ over leastSlack ++ over greatestSlack) (64000000 ∷ 0 ∷ 63999999 ∷ 999999 ∷ 0 ∷ [])
     ∷ []
 
+-- schedules of plan A (document 02, 5): its own timetable, last record first; one with gaps, whose bound is smaller than its
+-- greatest finish; a start at the finish of the task before it on its unit; then 20, 21 and 22
+unfoldable pub scheduleTable : List Row
+scheduleTable =
+    row (adoptFully (rec 4 0 6 8 ∷ rec 3 1 5 8 ∷ rec 2 1 2 6 ∷ rec 1 0 2 5 ∷ rec 0 0 0 2 ∷ []))
+    (0 ∷ 0 ∷ 5 ∷ 0 ∷ 1 ∷ 2 ∷ 3 ∷ 4 ∷ 0 ∷ 0 ∷ 0 ∷ 1 ∷ 1 ∷ 0 ∷ 0 ∷ 8 ∷ 8 ∷ [])
+    ∷ row (adoptFully (rec 0 0 10 12 ∷ rec 1 0 0 3 ∷ rec 2 1 12 16 ∷ rec 3 1 3 6 ∷ rec 4 0 20 22 ∷ []))
+    (0 ∷ 0 ∷ 5 ∷ 1 ∷ 3 ∷ 0 ∷ 2 ∷ 4 ∷ 0 ∷ 0 ∷ 1 ∷ 0 ∷ 1 ∷ 0 ∷ 0 ∷ 11 ∷ 22 ∷ [])
+    -- 20: four records, sixty-five, a task twice, one that is absent
+    ∷ row (adopt (take 4 (fourth 0 6 8)) ++ adopt (replicate 65 (rec 0 0 0 2))) (20 ∷ 4 ∷ 0 ∷ 20 ∷ 65 ∷ 0 ∷ [])
+    ∷ row (adopt (rec 0 0 0 2 ∷ rec 1 1 2 5 ∷ rec 2 1 2 6 ∷ rec 0 0 5 7 ∷ rec 4 0 6 9 ∷ [])) (20 ∷ 3 ∷ 0 ∷ [])
+    ∷ row (adopt (rec 0 0 0 2 ∷ rec 1 1 2 5 ∷ rec 2 1 2 6 ∷ rec 5 0 5 7 ∷ rec 4 0 6 9 ∷ [])) (20 ∷ 3 ∷ 0 ∷ [])
+    -- 21: a type that task 4 cannot use, one that is absent, a finish one too late, one that wraps around
+    ∷ row (adopt (fourth 1 6 8) ++ adopt (fourth 2 6 8)) (21 ∷ 4 ∷ 0 ∷ 21 ∷ 4 ∷ 0 ∷ [])
+    ∷ row (adopt (fourth 0 6 9) ++ adopt (fourth 0 4294967295 1)) (21 ∷ 4 ∷ 0 ∷ 21 ∷ 4 ∷ 0 ∷ [])
+    -- 22: task 4 starts before task 2 has finished; task 1 starts beside task 0 on the one unit of type 0, and when it is free
+    ∷ row (adopt (fourth 0 5 7) ++ adopt (fourth 0 4294967293 4294967295)) (22 ∷ 4 ∷ 0 ∷ 0 ∷ 0 ∷ 5 ∷ [])
+    ∷ row (adopt (rec 0 0 0 2 ∷ rec 1 0 1 4 ∷ rec 2 1 2 6 ∷ rec 3 1 4 7 ∷ rec 4 0 6 8 ∷ [])) (22 ∷ 1 ∷ 0 ∷ [])
+    ∷ limitTable
+
 -- margins on plan A: late by one, just in time and early; equal ones, and tasks without deadline; none (document 02, 2)
 unfoldable pub marginTable : List Row
 marginTable =
     row (margins (3 ∷ 5 ∷ 5 ∷ 0 ∷ 9 ∷ 0 ∷ [])) (1 ∷ 0 ∷ 1 ∷ 2 ∷ 1 ∷ 0 ∷ 0 ∷ 0 ∷ 0 ∷ 1 ∷ 0 ∷ 0 ∷ 1 ∷ 0 ∷ [])
     ∷ row (margins (0 ∷ 7 ∷ 0 ∷ 10 ∷ 0 ∷ 0 ∷ [])) (1 ∷ 2 ∷ 0 ∷ 1 ∷ 0 ∷ 0 ∷ 2 ∷ 0 ∷ 0 ∷ 0 ∷ 2 ∷ 0 ∷ 0 ∷ 0 ∷ [])
     ∷ row (margins (replicate 6 0)) (replicate 14 0)
-    ∷ limitTable
+    ∷ scheduleTable
 
 unfoldable pub table : List Row
 table =

@@ -3,15 +3,20 @@ use crate::limits::*;
 use crate::plan::*;
 
 pub fn check(plan: &Plan, constraint: &Constraint) -> Result<(), Refusal> {
-    let sized = plan.counts_are_right() && units_are_right(plan);
-    let right = sized && pairs_are_right(plan) && predecessors_are_right(plan);
-    if !right || !deadlines_are_right(plan) {
+    if !keeps_the_rules(plan) {
         return refuse(8, 0);
     }
     if constraint.length != plan.tasks {
         return refuse(9, constraint.length);
     }
     check_order(plan, constraint)
+}
+
+/// The rules of "The plan", with its deadlines.
+pub(super) fn keeps_the_rules(plan: &Plan) -> bool {
+    let sized = plan.counts_are_right() && units_are_right(plan);
+    let right = sized && pairs_are_right(plan) && predecessors_are_right(plan);
+    right && deadlines_are_right(plan)
 }
 
 /// Refusals 9 to 11 by position; bit p of a set stands for position p.

@@ -1,10 +1,12 @@
 //! The same answers as the plain forms, written for speed.
+mod adopt;
 mod check;
 mod margins;
 mod read;
 mod simulate;
 mod tick;
 
+pub use adopt::adopt;
 pub use check::check;
 pub use margins::margins;
 pub use read::read;

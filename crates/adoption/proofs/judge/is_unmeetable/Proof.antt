@@ -1,0 +1,62 @@
+-- `adoption::judge::is_unmeetable` meets its contract: what the records passed say. Assumes nothing.
+use mathlib.Core.Path.{refl}
+use Prim.Native.Nat.{ℕ, _-_}
+use native.Mathlib.Omega.{arith}
+use borrow.Author.Needs.{needs}
+use Rattle.task_set.specs.Bounded.{any, count}
+use Rattle.task_set.proofs.Bounded.{any-step, count-step, count-room}
+use Rattle.task_set.proofs.Upto.{Upto, upto-none, upto-more, upto-end}
+use Rattle.adoption.specs.Schedules.{scheduleOf, holds}
+use Rattle.adoption.proofs.Judging.{delays, delays-by, unmeetable-by}
+use Rattle.adoption.proofs.judge.is_unmeetable.Statement.{statement}
+use Rattle.adoption.proofs.judge.is_unmeetable.Tie as tie
+
+abbrev Inv-loop : tie.InvT-loop
+Inv-loop units predecessors len listed used starts finishes i needed k start hasty₀ holders₀ j₀ hasty holders j =
+    Upto (λ (n : ℕ). any n (delays needed (scheduleOf len listed used starts finishes) start)) len j hasty
+    × Upto (λ (n : ℕ). count n (holds (scheduleOf len listed used starts finishes) k start)) len j holders
+
+abbrev μ-loop : tie.MeasureT-loop
+μ-loop units predecessors len listed used starts finishes i needed k start hasty₀ holders₀ j₀ hasty holders j =
+    len - j
+
+loop-holds : tie.Need-loop-holds Inv-loop μ-loop
+unfolding any count
+loop-holds c = (upto-none refl, upto-none refl)
+
+add-holders : tie.Need-add-holders Inv-loop μ-loop
+unfolding holds
+add-holders c =
+    let t = c .before .before .before .before .before .before in
+    let l = t .before in
+    omega (
+      arith,
+      count-room _ _ (l .loop .inv .1 .is) (c .held .ensures),
+      t .loop-test .taken,
+      l .before .before .before .before .before .pre .1 .0,
+    )
+
+loop-again : tie.Need-loop-again Inv-loop μ-loop
+unfolding holds
+loop-again c =
+    let t = c .before .before .before .before .before .before in
+    let l = t .before in (
+      upto-more (t .loop-test .taken) (any-step _ _ (l .loop .inv .0 .is) (delays-by _ _ _ _ (c .before .before .before .contains .ensures))),
+      upto-more (t .loop-test .taken) (count-step _ _ (l .loop .inv .1 .is) (c .held .ensures)),
+    )
+
+returns : tie.Need-returns Inv-loop μ-loop
+returns c =
+    let l = c .before .before in
+    unmeetable-by _ _ _ _ (l .before .before .before .predecessors-of .ensures)
+    (upto-end (l .loop .inv .0) (c .before .loop-test .left))
+    (upto-end (l .loop .inv .1) (c .before .loop-test .left))
+
+pub is-unmeetable-spec : {M : Type 1} → statement M
+is-unmeetable-spec =
+    tie.close
+    (tie.spec Inv-loop μ-loop (λ c. search needs) (λ c. search needs) (λ c κs. search needs) (λ c. search needs)
+    (λ c. search needs) (λ c. search needs) (λ c. search needs) loop-holds (λ c. search needs) (λ c. search needs)
+    (λ c. search needs) (λ c. search needs) (λ c κs. search needs) (λ c. search needs) (λ c. search needs)
+    (λ c. search needs) (λ c. search needs) (λ c κs. search needs) add-holders (λ c. search needs)
+    (λ c. search needs) loop-again (λ c. search needs) (λ c. search needs) returns)

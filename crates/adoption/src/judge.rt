@@ -1,0 +1,171 @@
+// Whether a schedule is taken: 8 and 20 to 22, each over the whole list before the next.
+ghost use mathlib.Core.Path.{_≡_};
+ghost use mathlib.Core.Bool.{_&&_, _||_, cond, not};
+ghost use Prim.Native.Nat.{_+_, _<_, _≤_, ℕ};
+ghost use lib.Dec.{eqb, leb, ltb};
+ghost use lib.ListN.{getD};
+ghost use Rattle.task_set.specs.Bounded.{first};
+ghost use Rattle.plan.specs.Refusals.{refused as refusedAt};
+ghost use Rattle.plan.specs.Rules.{mostTasks, mostTypes};
+ghost use Rattle.adoption.specs.Schedules.{judged, mistimed, scheduleOf, unmeetable};
+use crate::Schedule;
+use plan::Constraint;
+use plan::MOST_PAIRS;
+use plan::MOST_TASKS;
+use plan::MOST_TYPES;
+use plan::Plan;
+use plan::Verdict;
+
+// 21, of a record whose task has this worst time on its type k. The sum is exact: no start is too late for it.
+fn does_not_fit(types: usize, k: usize, worst: u32, start: u32, finish: u32) -> bool
+    ensures { λ r. ⌜ r ≡ (leb types k || not (ltb 0 worst)) || not (eqb finish (start + worst)) ⌝ }
+{
+    let end = start as u64 + worst as u64;
+    (types <= k) | !(0 < worst) | !(finish as u64 == end)
+}
+
+// 21: the first record with a type that its task cannot use or with another finish than start plus worst, and the count
+// where there is none.
+fn first_mistimed<'a>(
+    types: usize,
+    wcet: &'a [u32; MOST_PAIRS],
+    len: usize,
+    listed: &'a [usize; MOST_TASKS],
+    used: &'a [usize; MOST_TASKS],
+    starts: &'a [u32; MOST_TASKS],
+    finishes: &'a [u32; MOST_TASKS],
+) -> usize
+    requires { ⌜ len ≤ mostTasks ⌝ }
+    ensures { λ r. ⌜ r ≡ first len (mistimed types (now (wcet .entry))
+        (scheduleOf len (now (listed .entry)) (now (used .entry)) (now (starts .entry)) (now (finishes .entry)))) ⌝ }
+{
+    let mut i = 0;
+    while i < len {
+        let k = used[i];
+        let worst = plan::time_of(wcet, listed[i], k);
+        if does_not_fit(types, k, worst, starts[i], finishes[i]) {
+            return i;
+        }
+        i += 1;
+    }
+    len
+}
+
+// 1 where a record of type own holds the type k at an instant, otherwise 0.
+fn held(own: usize, k: usize, start: u32, finish: u32, instant: u32) -> u32
+    ensures { λ r. ⌜ r ≡ cond (eqb own k && (leb start instant && ltb instant finish)) 1 0 ⌝ }
+{
+    if (own == k) & ((start <= instant) & (instant < finish)) {
+        1
+    } else {
+        0
+    }
+}
+
+// 22, of record i.
+fn is_unmeetable<'a>(
+    units: &'a [u32; MOST_TYPES],
+    predecessors: &'a [u64; MOST_TASKS],
+    len: usize,
+    listed: &'a [usize; MOST_TASKS],
+    used: &'a [usize; MOST_TASKS],
+    starts: &'a [u32; MOST_TASKS],
+    finishes: &'a [u32; MOST_TASKS],
+    i: usize,
+) -> bool
+    requires { ⌜ (i < len) × ((len ≤ mostTasks) × (getD (now used) i 0 < mostTypes)) ⌝ }
+    ensures { λ r. ⌜ r ≡ unmeetable (now (units .entry)) (now (predecessors .entry))
+        (scheduleOf len (now (listed .entry)) (now (used .entry)) (now (starts .entry)) (now (finishes .entry))) i ⌝ }
+{
+    let needed = plan::predecessors_of(predecessors, listed[i]);
+    let k = used[i];
+    let start = starts[i];
+    let mut hasty = false;
+    let mut holders: u32 = 0;
+    let mut j = 0;
+    while j < len {
+        let finish = finishes[j];
+        hasty = hasty | (task_set::contains(needed, listed[j]) & (start < finish));
+        holders += held(used[j], k, starts[j], finish, start);
+        j += 1;
+    }
+    hasty | (units[k] < holders)
+}
+
+// 22: the first record that starts before a predecessor's finish, or at whose start its type has too few units, and the
+// count where there is none.
+fn first_unmeetable<'a>(
+    units: &'a [u32; MOST_TYPES],
+    predecessors: &'a [u64; MOST_TASKS],
+    len: usize,
+    listed: &'a [usize; MOST_TASKS],
+    used: &'a [usize; MOST_TASKS],
+    starts: &'a [u32; MOST_TASKS],
+    finishes: &'a [u32; MOST_TASKS],
+) -> usize
+    requires { ⌜ (len ≤ mostTasks) × ((i : ℕ) → i < len → getD (now used) i 0 < mostTypes) ⌝ }
+    ensures { λ r. ⌜ r ≡ first len (unmeetable (now (units .entry)) (now (predecessors .entry))
+        (scheduleOf len (now (listed .entry)) (now (used .entry)) (now (starts .entry)) (now (finishes .entry)))) ⌝ }
+{
+    let mut i = 0;
+    while i < len {
+        if is_unmeetable(units, predecessors, len, listed, used, starts, finishes, i) {
+            return i;
+        }
+        i += 1;
+    }
+    len
+}
+
+fn refused(number: u32, place: usize) -> Verdict
+    ensures { λ r. ⌜ r ≡ refusedAt number place ⌝ }
+{
+    Verdict { number, place }
+}
+
+// The check sees to 8 and 20: the tasks of the list, in its own order, are each there once exactly if it does not say 9.
+pub fn judge(p: Plan, s: Schedule) -> Verdict
+    ensures { λ r. ⌜ r ≡ judged p s ⌝ }
+{
+    let len = s.len;
+    let v = plan::check(
+        p,
+        Constraint {
+            len,
+            order: s.tasks,
+            chosen: s.types,
+        },
+    );
+    if v.number == 8 {
+        return refused(8, 0);
+    }
+    if v.number == 9 {
+        return refused(20, v.place);
+    }
+    let types = p.types;
+    let mistimed = first_mistimed(
+        types,
+        &p.wcet,
+        len,
+        &s.tasks,
+        &s.types,
+        &s.starts,
+        &s.finishes,
+    );
+    if mistimed < len {
+        return refused(21, mistimed);
+    }
+    let unmeetable = first_unmeetable(
+        &p.units,
+        &p.predecessors,
+        len,
+        &s.tasks,
+        &s.types,
+        &s.starts,
+        &s.finishes,
+    );
+    if unmeetable < len {
+        return refused(22, unmeetable);
+    }
+    refused(0, 0)
+}
