@@ -169,6 +169,11 @@ module _ {p : Plan} {s : Schedule} (a : Taken p s) where
           (le-trans (le-of-eq (count-records each (holds s (typeAt s (at k)) (startAt s (at k)))))
           (le-trans (a .room (at k) (low k l)) (le-of-eq (ap (λ (t : ℕ). getD (p .units) t 0) (sym (chosen-at k l))))))
 
+  -- no task starts later than its record says
+  pub on-time : (k : ℕ) → k < p .tasks → startsOf p c (worst p c) k ≤ startAt s (recordAt s k)
+  unfolding x d
+  on-time = earliest (lawful both) (greedy both (worst p c)) x (starts-rise each) gate-open
+
   pub in-time : bound p c ≤ greatestFinish s
   unfolding bound x d greatestFinish
   in-time =
@@ -176,7 +181,7 @@ module _ {p : Plan} {s : Schedule} (a : Taken p s) where
       (greatest-lub (p .tasks) (ends (startsOf p c (worst p c)) d) (greatestFinish s)
       (λ k l. omega (
         arith,
-        earliest (lawful both) (greedy both (worst p c)) x (starts-rise each) gate-open k l,
+        on-time k l,
         finish-at k l,
         greatest-le (s .len) (finishAt s) (at k) (omega (arith, low k l, a .whole)),
       )))

@@ -1,9 +1,9 @@
 // A lent list of records, read into columns.
 ghost use mathlib.Core.Path.{_≡_};
-ghost use Prim.Native.Nat.{_<_};
+ghost use lib.ListN.{replicate};
 ghost use Rattle.plan.specs.Rules.{mostTasks};
-ghost use Rattle.adoption.specs.Schedules.{listed as listedOf};
-ghost use Rattle.adoption.specs.Steps.{kept, put, unread};
+ghost use Rattle.adoption.specs.Schedules.{column, listed as listedOf, noRecord, scheduleOf};
+ghost use Rattle.adoption.specs.Steps.{kept};
 use crate::Record;
 use crate::Schedule;
 use plan::MOST_TASKS;
@@ -15,29 +15,43 @@ fn fewer(len: usize) -> usize
     if len < MOST_TASKS { len } else { MOST_TASKS }
 }
 
-// So many records, none of them read yet.
-fn begun(len: usize) -> Schedule
-    ensures { λ r. ⌜ r ≡ unread len ⌝ }
+fn blank() -> [Record; MOST_TASKS]
+    ensures { λ r. ⌜ r ≡ replicate mostTasks noRecord ⌝ }
 {
-    Schedule {
-        len,
-        tasks: [0; MOST_TASKS],
-        types: [0; MOST_TASKS],
-        starts: [0; MOST_TASKS],
-        finishes: [0; MOST_TASKS],
-    }
+    let none = Record {
+        task: 0,
+        unit_type: 0,
+        start: 0,
+        finish: 0,
+    };
+    [none; MOST_TASKS]
 }
 
-// Record i is read too.
-fn with(mut s: Schedule, i: usize, r: Record) -> Schedule
-    requires { ⌜ i < mostTasks ⌝ }
-    ensures { λ l. ⌜ l ≡ put s i r ⌝ }
+// The columns of the records that are read, of so many.
+fn columns(len: usize, records: [Record; MOST_TASKS]) -> Schedule
+    ensures { λ r. ⌜ r ≡ scheduleOf len (column (λ r. r .task) records) (column (λ r. r .«unit_type») records)
+        (column (λ r. r .start) records) (column (λ r. r .finish) records) ⌝ }
 {
-    s.tasks[i] = r.task as usize;
-    s.types[i] = r.unit_type as usize;
-    s.starts[i] = r.start;
-    s.finishes[i] = r.finish;
-    s
+    let mut tasks = [0; MOST_TASKS];
+    let mut types = [0; MOST_TASKS];
+    let mut starts = [0; MOST_TASKS];
+    let mut finishes = [0; MOST_TASKS];
+    let mut i = 0;
+    while i < MOST_TASKS {
+        let r = records[i];
+        tasks[i] = r.task as usize;
+        types[i] = r.unit_type as usize;
+        starts[i] = r.start;
+        finishes[i] = r.finish;
+        i += 1;
+    }
+    Schedule {
+        len,
+        tasks,
+        types,
+        starts,
+        finishes,
+    }
 }
 
 // The one function that looks into the lent records: a reference to structs has no checked form, so it is proved by hand.
@@ -45,11 +59,11 @@ pub fn listed(records: &[Record]) -> Schedule
     ensures { λ r. ⌜ r ≡ listedOf (now (records .entry)) ⌝ }
 {
     let n = fewer(records.len());
-    let mut out = begun(records.len());
+    let mut out = blank();
     let mut i = 0;
     while i < n {
-        out = with(out, i, records[i]);
+        out[i] = records[i];
         i += 1;
     }
-    out
+    columns(records.len(), out)
 }

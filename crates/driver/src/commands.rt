@@ -52,14 +52,10 @@ pub fn text(s: &[u8]) -> Kept {
     output::write_verdict(b"read", a.number, a.place);
     let plan = a.plan;
     let constraint = a.constraint;
-    let state = no_state();
-    let schedule = schedules::none();
-    Kept {
-        plan,
-        constraint,
-        state,
-        schedule,
-    }
+    let mut k = nothing();
+    k.plan = plan;
+    k.constraint = constraint;
+    k
 }
 
 pub fn bad() {
@@ -204,16 +200,9 @@ fn simulate_first(k: Kept, times: &[u32; fields::MOST], count: usize) {
     output::write_line(&mut out, e);
 }
 
-fn with_run(k: Kept, state: State) -> Kept {
-    let plan = k.plan;
-    let constraint = k.constraint;
-    let schedule = k.schedule;
-    Kept {
-        plan,
-        constraint,
-        state,
-        schedule,
-    }
+fn with_run(mut k: Kept, state: State) -> Kept {
+    k.state = state;
+    k
 }
 
 fn start(k: Kept) -> Kept {
@@ -330,21 +319,14 @@ fn put_ticks(
     end
 }
 
-fn put_kept(k: Kept, part: u64, i: usize, value: u64) -> Kept {
+fn put_kept(mut k: Kept, part: u64, i: usize, value: u64) -> Kept {
     if !put::is_plan_part(part) {
         return neither(k);
     }
-    let plan = put::into_plan(k.plan, part, i, value);
-    let constraint = put::into_constraint(k.constraint, part, i, value);
-    let state = k.state;
-    let schedule = k.schedule;
+    k.plan = put::into_plan(k.plan, part, i, value);
+    k.constraint = put::into_constraint(k.constraint, part, i, value);
     output::write_text(b"put");
-    Kept {
-        plan,
-        constraint,
-        state,
-        schedule,
-    }
+    k
 }
 
 fn put_state(k: Kept, part: u64, i: usize, value: u64) -> Kept {
@@ -353,33 +335,23 @@ fn put_state(k: Kept, part: u64, i: usize, value: u64) -> Kept {
     with_run(k, state)
 }
 
-fn put_record(k: Kept, values: &[u64; fields::MOST]) -> Kept {
+fn put_record(mut k: Kept, values: &[u64; fields::MOST]) -> Kept {
     if !schedules::takes(k.schedule, values) {
         return neither(k);
     }
-    let schedule = schedules::with(k.schedule, values);
+    k.schedule = schedules::with(k.schedule, values);
     output::write_text(b"put");
-    with_list(k, k.constraint, schedule)
-}
-
-fn with_list(k: Kept, constraint: Constraint, schedule: Schedule) -> Kept {
-    let plan = k.plan;
-    let state = k.state;
-    Kept {
-        plan,
-        constraint,
-        state,
-        schedule,
-    }
+    k
 }
 
 // The list is empty again. The constraint of an accepted one is kept.
-fn adopt(k: Kept) -> Kept {
+fn adopt(mut k: Kept) -> Kept {
     let a = adoption::adopt_schedule(k.plan, k.schedule);
     schedules::write_adoption(a);
-    let empty = schedules::none();
+    let given = a.constraint;
+    k.schedule = schedules::none();
     if a.number == 0 {
-        return with_list(k, a.constraint, empty);
+        k.constraint = given;
     }
-    with_list(k, k.constraint, empty)
+    k
 }
