@@ -16,7 +16,7 @@
 extern "C" {
 #endif
 
-#define BENCHPLAN_VERSION 402      /* 0.4.2: ten thousands, hundreds, ones. Structs may differ from one version to the next: compile anew. */
+#define BENCHPLAN_VERSION 500      /* 0.5.0: ten thousands, hundreds, ones. Structs may differ from one version to the next: compile anew. */
 #define BENCH_TASKS 64
 #define BENCH_TYPES 8
 #define BENCH_UNITS 8              /* of each type */
@@ -47,13 +47,21 @@ enum bench_refusal {
     BENCH_OVERRUN = 16,       /* a running task is not reported and has now run its worst time */
     BENCH_TIMES_COUNT = 17,   /* the count of times is not the number of tasks */
     BENCH_TIME_RANGE = 18,    /* a time is 0 or above the worst of the chosen type */
-    BENCH_TOO_SHORT = 19      /* a lent buffer is too short */
+    BENCH_TOO_SHORT = 19,     /* a lent buffer is too short */
+    BENCH_LIST_TASKS = 20,    /* a schedule does not have one record for each task */
+    BENCH_LIST_TIMES = 21,    /* a record has a type that its task cannot use or that the plan does not have, or its finish is not its start plus the worst time */
+    BENCH_LIST_STARTS = 22    /* a record starts before a task that it waits for has finished, or when all units of its type are held */
 };
 
 /* Opaque: hand them on as they came. */
 typedef struct { uint64_t words[614]; } bench_plan;
-typedef struct { uint64_t words[129]; } bench_constraint;
 typedef struct { uint64_t words[810]; } bench_state;
+
+/* The order: the task and the type of each C line, with zeros after the last. */
+typedef struct { size_t length, task[BENCH_TASKS], unit_type[BENCH_TASKS]; } bench_constraint;
+
+/* A record of a schedule: its task holds a unit of the type from the start up to, not including, the finish. */
+typedef struct { uint32_t task, unit_type, start, finish; } bench_record;
 
 /* By task number: starts, finishes and slacks (margins, 0 without deadline; if `any` task has one, `least` is the least margin and `task` has it). */
 typedef struct { uint32_t number; size_t place; bench_plan plan; bench_constraint constraint; } bench_text;
@@ -62,11 +70,13 @@ typedef struct { uint32_t number; size_t place; uint32_t response, starts[BENCH_
 typedef struct { uint32_t number; size_t place, written; } bench_written;
 typedef struct { uint32_t number; size_t place; bool any; int64_t least; size_t task; int64_t slacks[BENCH_TASKS]; } bench_slacks;
 typedef struct { uint32_t number; size_t place; uint64_t started; bench_state state; } bench_ticked;
+typedef struct { uint32_t number; size_t place; bench_constraint constraint; } bench_adoption;
 
 #define BENCH_SIZE(type, bytes) typedef char type##_is_##bytes##_bytes[sizeof(type) == bytes ? 1 : -1]
 BENCH_SIZE(bench_plan, 4912); BENCH_SIZE(bench_constraint, 1032); BENCH_SIZE(bench_state, 6480);
 BENCH_SIZE(bench_text, 5960); BENCH_SIZE(bench_verdict, 16); BENCH_SIZE(bench_run, 536);
 BENCH_SIZE(bench_written, 24); BENCH_SIZE(bench_slacks, 552); BENCH_SIZE(bench_ticked, 6504);
+BENCH_SIZE(bench_record, 16); BENCH_SIZE(bench_adoption, 1048);
 
 /* The plan of a text, and its check: 1 to 7, 8 to 11. Every other call that takes a plan checks it first. */
 bench_text bench_read(const uint8_t *text, size_t length);
@@ -81,6 +91,10 @@ bench_written bench_timetable(bench_plan plan, bench_constraint constraint, cons
                               uint8_t *buffer, size_t buffer_length);
 bench_written bench_worst_timetable(bench_plan plan, bench_constraint constraint, uint8_t *buffer, size_t buffer_length);
 bench_slacks bench_margins(bench_plan plan, bench_constraint constraint);
+
+/* The order of a schedule that was worked out elsewhere with worst times, one record for each task (8, 20, 21, 22): tasks by start, equal starts by
+   lower number. The check takes it, and its bound is at most the greatest finish of the records. */
+bench_adoption bench_adopt(bench_plan plan, const bench_record *records, size_t records_length);
 
 /* A live run: the state and the tasks to begin at instant 0, then one instant on, with the reported tasks finished (12, 13, 14, 16). */
 bench_ticked bench_start(bench_plan plan, bench_constraint constraint);

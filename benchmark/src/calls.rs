@@ -3,6 +3,7 @@
 use rival::limits::{PAIRS, TASKS, TYPES};
 use rival::margins::Margins;
 use rival::run::Times;
+use rival::schedule::Record as Listed;
 
 #[repr(C)]
 #[derive(Clone, Copy, PartialEq)]
@@ -82,6 +83,22 @@ pub struct Ticked {
     state: State,
 }
 
+#[repr(C)]
+pub struct Record {
+    task: u32,
+    unit_type: u32,
+    start: u32,
+    finish: u32,
+}
+
+#[repr(C)]
+#[derive(PartialEq)]
+pub struct Adoption {
+    number: u32,
+    place: usize,
+    constraint: Constraint,
+}
+
 #[link(name = "benchplan", kind = "static")]
 extern "C" {
     fn bench_read(text: *const u8, length: usize) -> Text;
@@ -90,6 +107,7 @@ extern "C" {
         plan: Plan, constraint: Constraint, times: *const u32, times_length: usize,
     ) -> Run;
     fn bench_margins(plan: Plan, constraint: Constraint) -> Slacks;
+    fn bench_adopt(plan: Plan, records: *const Record, records_length: usize) -> Adoption;
     fn bench_replay(
         plan: Plan, constraint: Constraint, reports: *const u64, reports_length: usize,
         numbers: *mut u32, numbers_length: usize, places: *mut usize, places_length: usize,
@@ -124,6 +142,13 @@ impl Input {
     }
 }
 
+impl Record {
+    pub fn new(record: &Listed) -> Record {
+        let &Listed { task, unit_type, start, finish } = record;
+        Record { task, unit_type, start, finish }
+    }
+}
+
 // The answers that accept: number and place are 0, all else is the rival's.
 
 impl Text {
@@ -149,6 +174,12 @@ impl Slacks {
     pub fn accepted(margins: Margins) -> Slacks {
         let Margins { any, least, task, margins: slacks } = margins;
         Slacks { number: 0, place: 0, any, least, task: task as usize, slacks }
+    }
+}
+
+impl Adoption {
+    pub fn accepted(input: Input) -> Adoption {
+        Adoption { number: 0, place: 0, constraint: input.constraint }
     }
 }
 
@@ -201,6 +232,10 @@ pub fn simulate(i: &Input, times: &[u32]) -> Run {
 
 pub fn margins(i: &Input) -> Slacks {
     unsafe { bench_margins(i.plan, i.constraint) }
+}
+
+pub fn adopt(i: &Input, records: &[Record]) -> Adoption {
+    unsafe { bench_adopt(i.plan, records.as_ptr(), records.len()) }
 }
 
 pub fn replay(i: &Input, reports: &[u64], answers: &mut Answers) -> Ticked {

@@ -9,7 +9,7 @@ mod measure;
 mod plans;
 mod program;
 
-use calls::{Answers, Input, Run, Slacks, Text, Ticked, Verdict};
+use calls::{Adoption, Answers, Input, Record, Run, Slacks, Text, Ticked, Verdict};
 use plans::Shape;
 use program::Program;
 use rival::fast;
@@ -103,6 +103,19 @@ fn margins(table: &mut Table, name: &str, shape: &Shape) {
     assert_same(name, calls::margins(&input), Slacks::accepted(found));
     let ours = || calls::margins(black_box(&input));
     let rivals = || fast::margins(black_box(&plan), black_box(&constraint));
+    table.line(name, || measure::by_turns(ours, rivals), TWICE);
+}
+
+/// The timetable of worst times, last task first, is the schedule.
+fn adopt(table: &mut Table, name: &str, shape: &Shape) {
+    let (plan, constraint) = shape.plan();
+    let listed = plans::schedule(&plan, &constraint);
+    let records: Vec<Record> = listed.iter().map(Record::new).collect();
+    let found = fast::adopt(&plan, &listed).expect("a sound schedule");
+    let input = Input::new(&plan, &found);
+    assert_same(name, calls::adopt(&input, &records), Adoption::accepted(Input::new(&plan, &found)));
+    let ours = || calls::adopt(black_box(&input), black_box(&records));
+    let rivals = || fast::adopt(black_box(&plan), black_box(&listed));
     table.line(name, || measure::by_turns(ours, rivals), TWICE);
 }
 
@@ -201,6 +214,8 @@ fn main() {
     simulate(t, "simulate 64 tasks, few arrows", &plans::FEW_ARROWS);
     margins(t, "margins of the largest plan", &plans::LARGEST);
     margins(t, "margins of 64 tasks, few arrows", &plans::FEW_ARROWS);
+    adopt(t, "adopt a schedule of the largest plan", &plans::LARGEST);
+    adopt(t, "adopt one of 64 tasks, few arrows", &plans::FEW_ARROWS);
     replay(t, "replay a chain", &plans::CHAIN);
     replay(t, "replay all at once", &plans::WIDE);
     replay(t, "replay a mixture", &plans::MIXED);

@@ -1,7 +1,8 @@
 //! The inputs: texts, plans and lists of reports.
 use rival::limits::{LONGEST_TIME, TASKS, TYPES, UNITS};
 use rival::plan::{Constraint, Plan};
-use rival::simulate::simulate;
+use rival::schedule::Record;
+use rival::simulate::{simulate, worst_times};
 use std::fmt::Write;
 
 /// What a text is made of. Task t has the types y with `usable(t, y)`, the
@@ -104,4 +105,16 @@ pub fn reports(plan: &Plan, constraint: &Constraint) -> Vec<u64> {
     let times: Vec<u32> = (0..plan.tasks as u32).map(|t| t * 7 % 20 + 1).collect();
     let run = simulate(plan, constraint, &times).expect("legal times");
     run.reports(plan, run.response as usize)
+}
+
+/// The run with worst times as a schedule, last task first.
+pub fn schedule(plan: &Plan, constraint: &Constraint) -> Vec<Record> {
+    let times = worst_times(plan, constraint);
+    let run = simulate(plan, constraint, &times).expect("legal times");
+    let entry = |i: usize| {
+        let (task, unit_type) = (constraint.task[i] as u32, constraint.kind[i] as u32);
+        let t = task as usize;
+        Record { task, unit_type, start: run.starts[t], finish: run.finishes[t] }
+    };
+    (0..plan.tasks as usize).rev().map(entry).collect()
 }

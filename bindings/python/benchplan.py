@@ -16,7 +16,7 @@ import pathlib
 from collections import namedtuple
 from ctypes import POINTER, byref, c_bool, c_int64, c_size_t, c_uint8, c_uint32, c_uint64
 
-VERSION = 402
+VERSION = 500
 TASKS = 64
 TIMETABLE_MOST = 1448
 ANSWER_MOST = 1448
@@ -40,6 +40,9 @@ SENTENCES = {
     17: "the count of times is not the number of tasks",
     18: "a time is 0 or above the worst of the chosen type",
     19: "a lent buffer is too short",
+    20: "a schedule does not have one record for each task",
+    21: "a record has a type that its task cannot use or that the plan does not have, or its finish is not its start plus the worst time",
+    22: "a record starts before a task that it waits for has finished, or when all units of its type are held",
 }
 
 
@@ -62,7 +65,7 @@ class _Plan(ctypes.Structure):
 
 
 class _Constraint(ctypes.Structure):
-    _fields_ = [("words", c_uint64 * 129)]
+    _fields_ = [("length", c_size_t), ("task", c_size_t * TASKS), ("unit_type", c_size_t * TASKS)]
 
 
 class _State(ctypes.Structure):
@@ -96,10 +99,19 @@ class _Ticked(ctypes.Structure):
     _fields_ = _VERDICT + [("started", c_uint64), ("state", _State)]
 
 
+class _Record(ctypes.Structure):
+    _fields_ = [("task", c_uint32), ("unit_type", c_uint32), ("start", c_uint32), ("finish", c_uint32)]
+
+
+class _Adoption(ctypes.Structure):
+    _fields_ = _VERDICT + [("constraint", _Constraint)]
+
+
 _BYTES = [POINTER(c_uint8), c_size_t]
 _TIMES = [POINTER(c_uint32), c_size_t]
 _SETS = [POINTER(c_uint64), c_size_t]
 _PLACES = [POINTER(c_size_t), c_size_t]
+_RECORDS = [POINTER(_Record), c_size_t]
 _PLAN = [_Plan, _Constraint]
 _CALLS = {
     "bench_read": (_Text, _BYTES),
@@ -109,6 +121,7 @@ _CALLS = {
     "bench_timetable": (_Written, _PLAN + _TIMES + _BYTES),
     "bench_worst_timetable": (_Written, _PLAN + _BYTES),
     "bench_margins": (_Slacks, _PLAN),
+    "bench_adopt": (_Adoption, [_Plan] + _RECORDS),
     "bench_start": (_Ticked, _PLAN),
     "bench_tick": (_Ticked, [_State, c_uint64]),
     "bench_replay": (_Ticked, _PLAN + _SETS + _TIMES + _PLACES + _SETS),
@@ -156,6 +169,16 @@ def _lent_times(times):
     return _lent(c_uint32, [min(max(time, 0), 0xFFFFFFFF) for time in times])
 
 
+def _lent_records(records):
+    """The same for records of a schedule. No number is cut off: one that does not fit 32 bits does not reach the library."""
+    records = [Record(*record) for record in records]
+    for record in records:
+        for number in record:
+            if not 0 <= number <= 0xFFFFFFFF:
+                raise ValueError(f"{record}: {number} does not fit 32 bits")
+    return _lent(_Record, records)
+
+
 def _set_of(tasks):
     """Tasks as a word, bit t for task t."""
     word = 0
@@ -172,6 +195,7 @@ def _tasks_of(word):
 
 Run = namedtuple("Run", "response starts finishes")
 Margins = namedtuple("Margins", "any least task slacks")
+Record = namedtuple("Record", "task unit_type start finish")
 Ticked = namedtuple("Ticked", "number place started")
 Replayed = namedtuple("Replayed", "started ticks state")
 
@@ -190,10 +214,16 @@ def answer(text):
 
 
 class Plan:
-    """A plan with its constraint, as `read` gives it. Every call but `check` may refuse with 8 to 11, as `check` does."""
+    """A plan with its constraint, as `read` and `adopt` give it. Every call but `adopt` may refuse with 8 to 11, as `check` does."""
 
     def __init__(self, plan, constraint):
         self._plan, self._constraint = plan, constraint
+
+    @property
+    def order(self):
+        """The task and the type of each C line, in their order."""
+        c = self._constraint
+        return list(zip(c.task, c.unit_type))[: c.length]
 
     def check(self):
         """Nothing, or 8 to 11."""
@@ -222,6 +252,12 @@ class Plan:
         """What is to spare of each deadline with worst times, by task number; the least, and its task, if `any` task has a deadline."""
         reply = _accepted(_library.bench_margins(self._plan, self._constraint))
         return Margins(reply.any, reply.least, reply.task, list(reply.slacks))
+
+    def adopt(self, records):
+        """The same plan with the order of a schedule that was worked out elsewhere: one record of task, type, start and finish for each task;
+        20, 21, 22, and no other but 8. The check takes the plan given, and its bound is at most the records' greatest finish."""
+        reply = _accepted(_library.bench_adopt(self._plan, *_lent_records(records)))
+        return Plan(self._plan, reply.constraint)
 
     def start(self):
         """The state at instant 0, and the set of tasks to begin."""

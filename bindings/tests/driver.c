@@ -5,12 +5,14 @@
 #include <stdlib.h>
 #include <string.h>
 
-enum { LINE_TOO_LONG = 1024, MOST_TIMES = 80, LONGEST_LIST = 79, MOST_ROOM = 2000 };
+enum { LINE_TOO_LONG = 1024, MOST_TIMES = 80, LONGEST_LIST = 79, MOST_ROOM = 2000, MOST_RECORDS = 80 };
 
-/* The kept plan and constraint, and the run state. */
+/* The kept plan and constraint, the run state, and the records of a schedule. */
 static plan_both plan;
-static constraint_both constraint;
+static bench_constraint constraint;
 static state_both state;
+static bench_record records[MOST_RECORDS];
+static size_t record_count;
 
 static void number(uint64_t n) { printf("\t%" PRIu64, n); }
 
@@ -30,25 +32,25 @@ static void say_each(const uint32_t *starts, const uint32_t *finishes) {
 }
 
 static void do_check(void) {
-    bench_verdict v = bench_check(plan.words, constraint.words);
+    bench_verdict v = bench_check(plan.words, constraint);
     say("check", v.number, v.place);
 }
 
 static void do_bound(void) {
-    bench_run r = bench_bound(plan.words, constraint.words);
+    bench_run r = bench_bound(plan.words, constraint);
     say("bound", r.number, r.place);
     number(r.response);
 }
 
 static void do_simulate(const uint32_t *times, size_t count) {
-    bench_run r = bench_simulate(plan.words, constraint.words, times, count);
+    bench_run r = bench_simulate(plan.words, constraint, times, count);
     say("simulate", r.number, r.place);
     number(r.response);
     say_each(r.starts, r.finishes);
 }
 
 static void do_margins(void) {
-    bench_slacks s = bench_margins(plan.words, constraint.words);
+    bench_slacks s = bench_margins(plan.words, constraint);
     say("margins", s.number, s.place);
     number(s.any);
     signed_number(s.least);
@@ -75,8 +77,8 @@ static void do_query(void) {
 static void do_timetable(size_t room, const uint32_t *times, size_t count) {
     uint8_t buffer[MOST_ROOM];
     memset(buffer, '#', sizeof buffer);
-    bench_written w = times ? bench_timetable(plan.words, constraint.words, times, count, buffer, room)
-                            : bench_worst_timetable(plan.words, constraint.words, buffer, room);
+    bench_written w = times ? bench_timetable(plan.words, constraint, times, count, buffer, room)
+                            : bench_worst_timetable(plan.words, constraint, buffer, room);
     say("timetable", w.number, w.place);
     number(w.written);
     printf("\n");
@@ -87,7 +89,7 @@ static void do_replay(const uint64_t *reports, size_t count) {
     uint32_t numbers[LONGEST_LIST];
     size_t places[LONGEST_LIST];
     uint64_t sets[LONGEST_LIST];
-    bench_ticked t = bench_replay(plan.words, constraint.words, reports, count, numbers, count, places, count, sets, count);
+    bench_ticked t = bench_replay(plan.words, constraint, reports, count, numbers, count, places, count, sets, count);
     say("replay", t.number, t.place);
     number(t.started);
     for (size_t i = 0; !t.number && i < count; i++) {
@@ -100,7 +102,7 @@ static void do_replay(const uint64_t *reports, size_t count) {
 /* A number that P or R may put, and how many of its kind stand there; else nothing. */
 typedef struct { uint32_t *short_ones; size_t *sizes; uint64_t *sets; size_t count; } slot;
 
-static slot plan_slot(uint64_t part, plan_fields *p, constraint_fields *c) {
+static slot plan_slot(uint64_t part, plan_fields *p, bench_constraint *c) {
     switch (part) {
     case 0: return (slot){ .sizes = &p->types, .count = 1 };
     case 1: return (slot){ .short_ones = p->units, .count = BENCH_TYPES };
@@ -110,7 +112,7 @@ static slot plan_slot(uint64_t part, plan_fields *p, constraint_fields *c) {
     case 5: return (slot){ .sets = p->predecessors, .count = BENCH_TASKS };
     case 6: return (slot){ .sizes = &c->length, .count = 1 };
     case 7: return (slot){ .sizes = c->task, .count = BENCH_TASKS };
-    case 8: return (slot){ .sizes = c->type, .count = BENCH_TASKS };
+    case 8: return (slot){ .sizes = c->unit_type, .count = BENCH_TASKS };
     case 14: return (slot){ .short_ones = p->deadlines, .count = BENCH_TASKS };
     default: return (slot){ .count = 0 };
     }
@@ -160,13 +162,33 @@ static bool fields_of(const char *from, const char *end, uint64_t *values, size_
     return true;
 }
 
-/* The fields as times of 32 bits. */
+/* The fields as numbers of 32 bits. */
 static bool times_of(const uint64_t *values, size_t count, uint32_t *times) {
     for (size_t i = 0; i < count; i++) {
         if (values[i] > UINT32_MAX) return false;
         times[i] = (uint32_t)values[i];
     }
     return true;
+}
+
+static bool do_record(const uint64_t *values) {
+    uint32_t v[4];
+    if (record_count == MOST_RECORDS || !times_of(values, 4, v)) return false;
+    records[record_count++] = (bench_record){ .task = v[0], .unit_type = v[1], .start = v[2], .finish = v[3] };
+    printf("put");
+    return true;
+}
+
+static void do_adopt(void) {
+    bench_adoption a = bench_adopt(plan.words, records, record_count);
+    say("adopt", a.number, a.place);
+    number(a.constraint.length);
+    for (int i = 0; i < BENCH_TASKS; i++) {
+        number(a.constraint.task[i]);
+        number(a.constraint.unit_type[i]);
+    }
+    if (!a.number) constraint = a.constraint;
+    record_count = 0;
 }
 
 static bool with_lists(char letter, const uint64_t *v, size_t count) {
@@ -187,10 +209,12 @@ static bool obey(char letter, const uint64_t *v, size_t count) {
     case 'B': return count == 0 && (do_bound(), true);
     case 'D': return count == 0 && (do_margins(), true);
     case 'Q': return count == 0 && (do_query(), true);
-    case 'S': return count == 0 && (do_ticked("start", bench_start(plan.words, constraint.words)), true);
+    case 'S': return count == 0 && (do_ticked("start", bench_start(plan.words, constraint)), true);
     case 'T': return count == 1 && (do_ticked("tick", bench_tick(state.words, v[0])), true);
     case 'W': return count == 1 && v[0] <= MOST_ROOM && (do_timetable(v[0], NULL, 0), true);
-    case 'P': return count == 3 && put(plan_slot(v[0], &plan.fields, &constraint.fields), v[1], v[2]);
+    case 'P': return count == 3 && put(plan_slot(v[0], &plan.fields, &constraint), v[1], v[2]);
+    case 'E': return count == 4 && do_record(v);
+    case 'L': return count == 0 && (do_adopt(), true);
     case 'R': return count == 3 && put(state_slot(v[0]), v[1], v[2]);
     default: return with_lists(letter, v, count);
     }
@@ -207,7 +231,7 @@ static void do_line(const char *line, const char *end) {
 static void do_text(const char *text, size_t length) {
     bench_text t = bench_read((const uint8_t *)text, length);
     plan.words = t.plan;
-    constraint.words = t.constraint;
+    constraint = t.constraint;
     say("read", t.number, t.place);
     printf("\n");
 }

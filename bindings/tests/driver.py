@@ -13,10 +13,10 @@ from benchplan import TASKS, Refused
 
 TYPES = 8
 PAIRS = TASKS * TYPES
-LINE_TOO_LONG, MOST_TIMES, LONGEST_LIST, MOST_ROOM = 1024, 80, 79, 2000
+LINE_TOO_LONG, MOST_TIMES, LONGEST_LIST, MOST_ROOM, MOST_RECORDS = 1024, 80, 79, 2000, 80
 
 
-# What lies behind the opaque words of plan, constraint and state.
+# What lies behind the words of plan, constraint and state, with each number as an array.
 
 
 class PlanFields(ctypes.Structure):
@@ -98,7 +98,7 @@ class Session:
     """What is kept, and the lines that were answered."""
 
     def __init__(self, text):
-        self.lines = []
+        self.lines, self.records = [], []
         self.plan = benchplan.Plan(benchplan._Plan(), benchplan._Constraint())
         self.state = benchplan.State(benchplan._State())
         self.answer("read", lambda: self.keep(benchplan.read(text)), 0)
@@ -197,6 +197,21 @@ class Session:
 
         self.answer("replay", call, 1)
 
+    def put_record(self, *record):
+        if len(self.records) == MOST_RECORDS:
+            raise Bad
+        self.records.append(times_of(record))
+        self.say("put")
+
+    def adopt(self):
+        def call():
+            self.plan = self.plan.adopt(self.records)
+            c = self.fields()[1]
+            return *c.length, *each(c.task, c.type)
+
+        self.answer("adopt", call, 1 + 2 * TASKS)
+        self.records = []
+
     def put_plan(self, part, index, value):
         put(array_of(part, *self.fields()), index, value)
         self.say("put")
@@ -219,6 +234,8 @@ COMMANDS = {
     b"W": ([1], Session.worst_timetable),
     b"Y": (range(1, LONGEST_LIST + 2), Session.timetable),
     b"Z": (range(LONGEST_LIST + 1), Session.replay),
+    b"E": ([4], Session.put_record),
+    b"L": ([0], Session.adopt),
     b"P": ([3], Session.put_plan),
     b"R": ([3], Session.put_state),
 }

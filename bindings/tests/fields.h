@@ -1,4 +1,4 @@
-/* What lies behind the opaque words of benchplan.h: the fields of the Rattle structs Plan, Constraint and State. For tests alone. */
+/* What lies behind the opaque words of benchplan.h: the fields of the Rattle structs Plan and State. For tests alone. */
 #ifndef FIELDS_H
 #define FIELDS_H
 #include "benchplan.h"
@@ -15,12 +15,8 @@ typedef struct {
 } plan_fields;
 
 typedef struct {
-    size_t length, task[BENCH_TASKS], type[BENCH_TASKS];
-} constraint_fields;
-
-typedef struct {
     plan_fields plan;
-    constraint_fields constraint;
+    bench_constraint constraint;
     uint32_t instant;
     size_t started;
     uint64_t finished;
@@ -28,10 +24,8 @@ typedef struct {
 } state_fields;
 
 typedef union { bench_plan words; plan_fields fields; } plan_both;
-typedef union { bench_constraint words; constraint_fields fields; } constraint_both;
 typedef union { bench_state words; state_fields fields; } state_both;
 
 BENCH_SIZE(plan_fields, 4912);
-BENCH_SIZE(constraint_fields, 1032);
 BENCH_SIZE(state_fields, 6480);
 #endif

@@ -12,7 +12,7 @@ static int failed = 0;
 static char text[2 * BENCH_TEXT_MOST];
 static size_t length;
 static plan_both plan;
-static constraint_both constraint;
+static bench_constraint constraint;
 
 static void begin(size_t types, size_t tasks) {
     memset(&plan, 0, sizeof plan);
@@ -47,8 +47,8 @@ static void deadline(size_t task, uint32_t instant) {
 
 static void choice(size_t task, size_t type) {
     LINE("C\t%zu\t%zu\n", task, type);
-    constraint.fields.task[constraint.fields.length] = task;
-    constraint.fields.type[constraint.fields.length++] = type;
+    constraint.task[constraint.length] = task;
+    constraint.unit_type[constraint.length++] = type;
 }
 
 static bench_text read_text(void) { return bench_read((const uint8_t *)text, length); }
@@ -93,25 +93,25 @@ static void check_verdicts(void) {
     units(0, 1);
     for (size_t t = 0; t < BENCH_TASKS; t++) times(t, 0, 1, 2);
     for (size_t t = 0; t < BENCH_TASKS; t++) choice(t, 0);
-    HOLDS(bench_check(plan.words, constraint.words).number == 0);
+    HOLDS(bench_check(plan.words, constraint).number == 0);
     plan.fields.deadlines[63] = BENCH_LONGEST_TIME;
-    HOLDS(bench_check(plan.words, constraint.words).number == 0);
+    HOLDS(bench_check(plan.words, constraint).number == 0);
     plan.fields.deadlines[63]++;
-    HOLDS(bench_check(plan.words, constraint.words).number == BENCH_PLAN_RULE);
+    HOLDS(bench_check(plan.words, constraint).number == BENCH_PLAN_RULE);
     plan.fields.deadlines[63] = 0;
-    constraint.fields.type[63] = 1;
-    bench_verdict v = bench_check(plan.words, constraint.words);
+    constraint.unit_type[63] = 1;
+    bench_verdict v = bench_check(plan.words, constraint);
     HOLDS(v.number == BENCH_NOT_USABLE && v.place == 63);
-    constraint.fields.type[63] = 0;
-    constraint.fields.length = 62;
-    v = bench_check(plan.words, constraint.words);
+    constraint.unit_type[63] = 0;
+    constraint.length = 62;
+    v = bench_check(plan.words, constraint);
     HOLDS(v.number == BENCH_NOT_EACH_ONCE && v.place == 62);
-    constraint.fields.length = BENCH_TASKS;
+    constraint.length = BENCH_TASKS;
     plan.fields.predecessors[5] = (uint64_t)1 << 9;
-    v = bench_check(plan.words, constraint.words);
+    v = bench_check(plan.words, constraint);
     HOLDS(v.number == BENCH_OUT_OF_ORDER && v.place == 5);
-    HOLDS(bench_margins(plan.words, constraint.words).place == 5);
-    HOLDS(bench_start(plan.words, constraint.words).place == 5);
+    HOLDS(bench_margins(plan.words, constraint).place == 5);
+    HOLDS(bench_start(plan.words, constraint).place == 5);
 }
 
 /* Plan A of document 01. */
@@ -142,17 +142,52 @@ static bool runs_so(bench_run r, uint32_t response, const uint32_t *starts, cons
 static void check_runs(void) {
     uint32_t late[5];
     plan_a();
-    HOLDS(runs_so(bench_bound(plan.words, constraint.words), 8, worst_starts, worst_finishes));
-    HOLDS(runs_so(bench_simulate(plan.words, constraint.words, given, 5), 7, given_starts, given_finishes));
-    bench_run r = bench_simulate(plan.words, constraint.words, given, 4);
+    HOLDS(runs_so(bench_bound(plan.words, constraint), 8, worst_starts, worst_finishes));
+    HOLDS(runs_so(bench_simulate(plan.words, constraint, given, 5), 7, given_starts, given_finishes));
+    bench_run r = bench_simulate(plan.words, constraint, given, 4);
     HOLDS(r.number == BENCH_TIMES_COUNT && r.place == 4 && r.response == 0);
     memcpy(late, given, sizeof late);
     late[3]++;
-    r = bench_simulate(plan.words, constraint.words, late, 5);
+    r = bench_simulate(plan.words, constraint, late, 5);
     HOLDS(r.number == BENCH_TIME_RANGE && r.place == 3 && r.starts[4] == 0 && r.finishes[4] == 0);
-    bench_slacks s = bench_margins(plan.words, constraint.words);
+    bench_slacks s = bench_margins(plan.words, constraint);
     HOLDS(s.number == 0 && s.place == 0 && s.any && s.least == -2 && s.task == 3);
     HOLDS(s.slacks[0] == 0 && s.slacks[1] == 4 && s.slacks[3] == -2 && s.slacks[63] == 0);
+}
+
+static bool adopted_so(const bench_record *records, const size_t *task, const size_t *type) {
+    bench_adoption a = bench_adopt(plan.words, records, 5);
+    return a.number == 0 && a.place == 0 && a.constraint.length == 5 && a.constraint.task[63] == 0 && a.constraint.unit_type[63] == 0
+        && !memcmp(a.constraint.task, task, 5 * sizeof *task) && !memcmp(a.constraint.unit_type, type, 5 * sizeof *type);
+}
+
+/* Schedules: each field of a record decides once. */
+static void check_schedules(void) {
+    bench_record r[5] = { { 4, 0, 20, 22 }, { 3, 1, 3, 6 }, { 2, 1, 12, 16 }, { 1, 0, 0, 3 }, { 0, 0, 10, 12 } };
+    static const size_t task[5] = { 1, 3, 0, 2, 4 }, type[5] = { 0, 1, 0, 1, 0 };
+    plan_a();
+    HOLDS(adopted_so(r, task, type));
+    HOLDS(bench_bound(plan.words, bench_adopt(plan.words, r, 5).constraint).response == 11);
+    bench_adoption a = bench_adopt(plan.words, r, 4);
+    HOLDS(a.number == BENCH_LIST_TASKS && a.place == 4 && a.constraint.length == 0 && a.constraint.task[0] == 0);
+    r[1].task = 5;
+    a = bench_adopt(plan.words, r, 5);
+    HOLDS(a.number == BENCH_LIST_TASKS && a.place == 1);
+    r[1].task = 3;
+    r[2].unit_type = 0;
+    a = bench_adopt(plan.words, r, 5);
+    HOLDS(a.number == BENCH_LIST_TIMES && a.place == 2);
+    r[2].unit_type = 1;
+    r[3].finish = 4;
+    a = bench_adopt(plan.words, r, 5);
+    HOLDS(a.number == BENCH_LIST_TIMES && a.place == 3);
+    r[3].finish = 3;
+    r[1].start = 2;
+    r[1].finish = 5;
+    a = bench_adopt(plan.words, r, 5);
+    HOLDS(a.number == BENCH_LIST_STARTS && a.place == 1);
+    plan.fields.tasks = 0;
+    HOLDS(bench_adopt(plan.words, r, 5).number == BENCH_PLAN_RULE);
 }
 
 /* Written bytes, and those after them, which stay. */
@@ -161,14 +196,14 @@ static void check_texts(void) {
     const size_t size = sizeof table - 1;
     plan_a();
     memset(buffer, '#', sizeof buffer);
-    bench_written w = bench_worst_timetable(plan.words, constraint.words, buffer, size - 1);
+    bench_written w = bench_worst_timetable(plan.words, constraint, buffer, size - 1);
     HOLDS(w.number == BENCH_TOO_SHORT && w.place == size && w.written == 0 && buffer[0] == '#');
-    w = bench_worst_timetable(plan.words, constraint.words, buffer, size);
+    w = bench_worst_timetable(plan.words, constraint, buffer, size);
     HOLDS(w.number == 0 && w.place == 0 && w.written == size && !memcmp(buffer, table, size) && buffer[size] == '#');
     memset(buffer, '#', sizeof buffer);
-    w = bench_timetable(plan.words, constraint.words, worst_finishes, 3, buffer, size);
+    w = bench_timetable(plan.words, constraint, worst_finishes, 3, buffer, size);
     HOLDS(w.number == BENCH_TIMES_COUNT && w.place == 3 && w.written == 0 && buffer[0] == '#');
-    w = bench_timetable(plan.words, constraint.words, given, 5, buffer, sizeof buffer);
+    w = bench_timetable(plan.words, constraint, given, 5, buffer, sizeof buffer);
     HOLDS(w.number == 0 && w.place == 0 && w.written == size && !memcmp(buffer + size - 2, "7\n#", 3));
     memset(buffer, '#', sizeof buffer);
     HOLDS(bench_answer((const uint8_t *)text, length, &buffer) == size && !memcmp(buffer, table, size) && buffer[size] == '#');
@@ -190,7 +225,7 @@ static void check_ticks(void) {
     size_t places[5] = { 78, 78, 78, 78, 78 };
     uint64_t sets[5] = { 79, 79, 79, 79, 79 };
     plan_a();
-    bench_ticked t = bench_start(plan.words, constraint.words);
+    bench_ticked t = bench_start(plan.words, constraint);
     HOLDS(t.number == 0 && t.place == 0 && t.started == 1);
     for (int i = 0; i < 2; i++) t = bench_tick(t.state, reports[i]);
     state_both s = both(t.state);
@@ -199,9 +234,9 @@ static void check_ticks(void) {
     HOLDS(s.fields.starts[2] == 1 && s.fields.starts[3] == 2 && s.fields.finishes[0] == 1 && s.fields.finishes[1] == 2);
     t = bench_tick(t.state, reports[2]);
     HOLDS(t.number == BENCH_NOT_RUNNING && t.place == 5 && t.started == 0 && same_state(both(t.state), s));
-    t = bench_replay(plan.words, constraint.words, reports, 4, numbers, 4, places, 3, sets, 4);
+    t = bench_replay(plan.words, constraint, reports, 4, numbers, 4, places, 3, sets, 4);
     HOLDS(t.number == BENCH_TOO_SHORT && t.place == 4 && t.started == 0 && numbers[0] == 77 && places[0] == 78 && sets[0] == 79);
-    t = bench_replay(plan.words, constraint.words, reports, 4, numbers, 5, places, 5, sets, 5);
+    t = bench_replay(plan.words, constraint, reports, 4, numbers, 5, places, 5, sets, 5);
     HOLDS(t.number == 0 && t.place == 0 && t.started == 1);
     HOLDS(numbers[2] == BENCH_NOT_RUNNING && places[2] == 5 && sets[2] == 0 && numbers[3] == 0 && places[3] == 0 && sets[1] == 8);
     HOLDS(numbers[4] == 77 && places[4] == 78 && sets[4] == 79);
@@ -229,6 +264,7 @@ void simulate_to(void *, bench_plan, bench_constraint, const uint32_t *, size_t)
 void bound_to(void *, bench_plan, bench_constraint) __asm__("bench_bound");
 void timetable_to(void *, bench_plan, bench_constraint, uint8_t *, size_t) __asm__("bench_worst_timetable");
 void margins_to(void *, bench_plan, bench_constraint) __asm__("bench_margins");
+void adopt_to(void *, bench_plan, const bench_record *, size_t) __asm__("bench_adopt");
 void start_to(void *, bench_plan, bench_constraint) __asm__("bench_start");
 void tick_to(void *, bench_state, uint64_t) __asm__("bench_tick");
 #ifdef __cplusplus
@@ -255,19 +291,22 @@ static bool fills(size_t size) {
 
 static void check_sizes(void) {
     uint8_t buffer[BENCH_TIMETABLE_MOST];
+    const bench_record record = { 0, 0, 0, 2 };
     plan_a();
-    const bench_state state = bench_start(plan.words, constraint.words).state;
+    const bench_state state = bench_start(plan.words, constraint).state;
     read_to(untouched(), (const uint8_t *)text, length);
     HOLDS(fills(sizeof(bench_text)));
-    simulate_to(untouched(), plan.words, constraint.words, given, 5);
+    simulate_to(untouched(), plan.words, constraint, given, 5);
     HOLDS(fills(sizeof(bench_run)));
-    bound_to(untouched(), plan.words, constraint.words);
+    bound_to(untouched(), plan.words, constraint);
     HOLDS(fills(sizeof(bench_run)));
-    timetable_to(untouched(), plan.words, constraint.words, buffer, sizeof buffer);
+    timetable_to(untouched(), plan.words, constraint, buffer, sizeof buffer);
     HOLDS(fills(sizeof(bench_written)));
-    margins_to(untouched(), plan.words, constraint.words);
+    margins_to(untouched(), plan.words, constraint);
     HOLDS(fills(sizeof(bench_slacks)));
-    start_to(untouched(), plan.words, constraint.words);
+    adopt_to(untouched(), plan.words, &record, 1);
+    HOLDS(fills(sizeof(bench_adoption)));
+    start_to(untouched(), plan.words, constraint);
     HOLDS(fills(sizeof(bench_ticked)));
     tick_to(untouched(), state, 1);
     HOLDS(fills(sizeof(bench_ticked)));
@@ -285,6 +324,7 @@ static void check_widths(void) {
     WIDTH(bench_slacks, any, 1);
     WIDTH(bench_slacks, task, 8);
     WIDTH(bench_ticked, number, 4);
+    WIDTH(bench_adoption, number, 4);
     WIDTH(state_fields, instant, 4);
 }
 
@@ -311,12 +351,12 @@ static void check_limits(void) {
     for (size_t t = 0; t < BENCH_TASKS; t++) times(t, 0, 1, BENCH_LONGEST_TIME);
     for (size_t t = 0; t < BENCH_TASKS; t++) choice(t, 0);
     HOLDS(read_text().number == 0);
-    HOLDS(bench_bound(plan.words, constraint.words).response == BENCH_LAST_INSTANT);
+    HOLDS(bench_bound(plan.words, constraint).response == BENCH_LAST_INSTANT);
     uint8_t buffer[BENCH_TIMETABLE_MOST];
-    HOLDS(bench_worst_timetable(plan.words, constraint.words, buffer, sizeof buffer).written == BENCH_TIMETABLE_MOST);
+    HOLDS(bench_worst_timetable(plan.words, constraint, buffer, sizeof buffer).written == BENCH_TIMETABLE_MOST);
     HOLDS(BENCH_ANSWER_MOST == BENCH_TIMETABLE_MOST);
     plan.fields.worst[0]++;
-    HOLDS(bench_check(plan.words, constraint.words).number == BENCH_PLAN_RULE);
+    HOLDS(bench_check(plan.words, constraint).number == BENCH_PLAN_RULE);
     HOLDS(number_of("U\t0\t" DIGITS(BENCH_UNITS) "\n") == 0);
     HOLDS(number_of("U\t" DIGITS(BENCH_TYPES) "\t1\n") == BENCH_OUT_OF_RANGE);
     HOLDS(number_of("U\t0\t1\nT\t" DIGITS(BENCH_TASKS) "\t0\t1\t1\n") == BENCH_OUT_OF_RANGE);
@@ -329,6 +369,7 @@ int main(void) {
     check_read();
     check_verdicts();
     check_runs();
+    check_schedules();
     check_texts();
     check_ticks();
     check_unsound();

@@ -39,6 +39,19 @@ assert refusal_of(benchplan.read, bytearray(32769)) == (1, 0)
 assert raises(TypeError, benchplan.read, "U\t0\t1\n") and raises(TypeError, benchplan.read, 5)
 assert benchplan.answer(b"") == b"refused\t8\t0\n"
 
+# Schedules: any iterable of four numbers; what does not fit 32 bits is not cut off. A plan with gaps comes back with a smaller bound.
+schedule = [(0, 0, 10, 12), (1, 0, 0, 3), (2, 1, 12, 16), (3, 1, 3, 6), benchplan.Record(4, 0, 20, 22)]
+adopted = plan.adopt(iter(schedule))
+assert adopted.order == [(1, 0), (3, 1), (0, 0), (2, 1), (4, 0)] and adopted.bound().response == 11
+assert plan.order == [(0, 0), (1, 0), (2, 1), (3, 1), (4, 0)] and plan.bound().response == 8
+assert refusal_of(plan.adopt, []) == (20, 0) and refusal_of(plan.adopt, schedule * 20) == (20, 100)
+assert refusal_of(plan.adopt, schedule[:4] + [(4, 1, 20, 22)]) == (21, 4)
+assert refusal_of(plan.adopt, schedule[:4] + [(4, 0, 2**32 - 1, 1)]) == (21, 4)
+assert refusal_of(plan.adopt, schedule[:4] + [(4, 0, 15, 17)]) == (22, 4)
+assert raises(ValueError, plan.adopt, schedule[:4] + [(4, 0, 2**32 - 3, 2**32 + 2**32 - 1)])
+assert raises(ValueError, plan.adopt, schedule[:4] + [(-1, 0, 20, 22)]) and raises(TypeError, plan.adopt, [(0, 0, 0)])
+assert refusal_of(benchplan.read(b"").adopt, schedule) == (8, 0)
+
 # Rooms: 19 tells the bytes that are needed.
 table = plan.worst_timetable()
 assert table.endswith(b"R\t8\n") and plan.timetable(worst, len(table)) == table

@@ -14,6 +14,7 @@ static bench_ticked run;
 static uint32_t times[BENCH_TASKS], numbers[TICKS];
 static uint64_t reports[TICKS], sets[TICKS];
 static size_t places[TICKS];
+static bench_record records[BENCH_TASKS];
 static volatile uint32_t sink;
 
 /* 64 tasks on 8 types with all pairs; each task waits for all before it. */
@@ -43,6 +44,7 @@ static void do_worst_timetable(void) {
     sink = a.number;
 }
 static void do_margins(void) { bench_slacks a = bench_margins(plan.plan, plan.constraint); sink = a.number; }
+static void do_adopt(void) { bench_adoption a = bench_adopt(plan.plan, records, BENCH_TASKS); sink = a.number; }
 static void do_start(void) { bench_ticked a = bench_start(plan.plan, plan.constraint); sink = a.number; run = a; }
 static void do_tick(void) { bench_ticked a = bench_tick(run.state, 1); sink = a.number; }
 static void do_replay(void) {
@@ -70,11 +72,13 @@ int main(void) {
     static const struct { const char *name; void (*call)(void); } calls[] = {
         { "nothing", nothing }, { "bench_read", do_read }, { "bench_check", do_check }, { "bench_simulate", do_simulate },
         { "bench_bound", do_bound }, { "bench_timetable", do_timetable }, { "bench_worst_timetable", do_worst_timetable },
-        { "bench_margins", do_margins }, { "bench_start", do_start }, { "bench_tick", do_tick }, { "bench_replay", do_replay },
+        { "bench_margins", do_margins }, { "bench_adopt", do_adopt }, { "bench_start", do_start }, { "bench_tick", do_tick }, { "bench_replay", do_replay },
         { "bench_answer", do_answer } };
     size_t most = 0;
     write_text();
     for (int t = 0; t < BENCH_TASKS; t++) times[t] = 1;
+    for (uint32_t t = 0; t < BENCH_TASKS; t++)
+        records[t] = (bench_record){ t, t % BENCH_TYPES, t * BENCH_LONGEST_TIME, (t + 1) * BENCH_LONGEST_TIME };
     for (int t = 0; t < TICKS; t++) reports[t] = t < BENCH_TASKS ? (uint64_t)1 << t : 0;
     for (size_t i = 0; i < sizeof calls / sizeof *calls; i++) {
         size_t bytes = taken(calls[i].call);

@@ -5,10 +5,13 @@ ghost use Prim.Native.Nat.{_+_, _<_, _≤_, ℕ};
 ghost use lib.Dec.{eqb, leb, ltb};
 ghost use lib.ListN.{getD};
 ghost use Rattle.task_set.specs.Bounded.{first};
+ghost use Rattle.task_set.specs.Sets.{insert};
 ghost use Rattle.plan.specs.Refusals.{refused as refusedAt};
-ghost use Rattle.plan.specs.Rules.{mostTasks, mostTypes};
+ghost use Rattle.plan.specs.Rules.{mostTasks, mostTypes, timeOf, usable};
 ghost use Rattle.adoption.specs.Schedules.{judged, mistimed, scheduleOf, unmeetable};
+ghost use Rattle.adoption.specs.Steps.{membersOf};
 use crate::Schedule;
+use crate::wide;
 use plan::Constraint;
 use plan::MOST_PAIRS;
 use plan::MOST_TASKS;
@@ -16,12 +19,21 @@ use plan::MOST_TYPES;
 use plan::Plan;
 use plan::Verdict;
 
-// 21, of a record whose task has this worst time on its type k. The sum is exact: no start is too late for it.
-fn does_not_fit(types: usize, k: usize, worst: u32, start: u32, finish: u32) -> bool
-    ensures { λ r. ⌜ r ≡ (leb types k || not (ltb 0 worst)) || not (eqb finish (start + worst)) ⌝ }
+// 21, of a record. The sum is exact: no start is too late for it.
+fn does_not_fit(
+    types: usize,
+    wcet: &[u32; MOST_PAIRS],
+    t: u32,
+    k: u32,
+    start: u32,
+    finish: u32,
+) -> bool
+    ensures { λ r. ⌜ r ≡ (leb types k || not (usable (now (wcet .entry)) t k))
+        || not (eqb finish (start + timeOf (now (wcet .entry)) t k)) ⌝ }
 {
+    let worst = plan::time_of(wcet, t as usize, k as usize);
     let end = start as u64 + worst as u64;
-    (types <= k) | !(0 < worst) | !(finish as u64 == end)
+    (types <= k as usize) | !(0 < worst) | !(finish as u64 == end)
 }
 
 // 21: the first record with a type that its task cannot use or with another finish than start plus worst, and the count
@@ -30,8 +42,8 @@ fn first_mistimed<'a>(
     types: usize,
     wcet: &'a [u32; MOST_PAIRS],
     len: usize,
-    listed: &'a [usize; MOST_TASKS],
-    used: &'a [usize; MOST_TASKS],
+    listed: &'a [u32; MOST_TASKS],
+    used: &'a [u32; MOST_TASKS],
     starts: &'a [u32; MOST_TASKS],
     finishes: &'a [u32; MOST_TASKS],
 ) -> usize
@@ -41,9 +53,7 @@ fn first_mistimed<'a>(
 {
     let mut i = 0;
     while i < len {
-        let k = used[i];
-        let worst = plan::time_of(wcet, listed[i], k);
-        if does_not_fit(types, k, worst, starts[i], finishes[i]) {
+        if does_not_fit(types, wcet, listed[i], used[i], starts[i], finishes[i]) {
             return i;
         }
         i += 1;
@@ -52,7 +62,7 @@ fn first_mistimed<'a>(
 }
 
 // 1 where a record of type own holds the type k at an instant, otherwise 0.
-fn held(own: usize, k: usize, start: u32, finish: u32, instant: u32) -> u32
+fn held(own: u32, k: u32, start: u32, finish: u32, instant: u32) -> u32
     ensures { λ r. ⌜ r ≡ cond (eqb own k && (leb start instant && ltb instant finish)) 1 0 ⌝ }
 {
     if (own == k) & ((start <= instant) & (instant < finish)) {
@@ -62,22 +72,43 @@ fn held(own: usize, k: usize, start: u32, finish: u32, instant: u32) -> u32
     }
 }
 
-// 22, of record i.
+// The set with the one member t.
+fn member(t: u32) -> u64
+    ensures { λ r. ⌜ r ≡ insert 0 t ⌝ }
+{
+    task_set::inserted(0, t as usize)
+}
+
+// The same of each task of a list.
+fn members(listed: &[u32; MOST_TASKS]) -> [u64; MOST_TASKS]
+    ensures { λ r. ⌜ r ≡ membersOf (now (listed .entry)) ⌝ }
+{
+    let mut out = [0; MOST_TASKS];
+    let mut i = 0;
+    while i < MOST_TASKS {
+        out[i] = member(listed[i]);
+        i += 1;
+    }
+    out
+}
+
+// 22, of record i. The tasks come as sets too: by those the loop finds the needed ones without a shift.
 fn is_unmeetable<'a>(
     units: &'a [u32; MOST_TYPES],
     predecessors: &'a [u64; MOST_TASKS],
     len: usize,
-    listed: &'a [usize; MOST_TASKS],
-    used: &'a [usize; MOST_TASKS],
+    listed: &'a [u32; MOST_TASKS],
+    members: &'a [u64; MOST_TASKS],
+    used: &'a [u32; MOST_TASKS],
     starts: &'a [u32; MOST_TASKS],
     finishes: &'a [u32; MOST_TASKS],
     i: usize,
 ) -> bool
-    requires { ⌜ (i < len) × ((len ≤ mostTasks) × (getD (now used) i 0 < mostTypes)) ⌝ }
+    requires { ⌜ ((i < len) × ((len ≤ mostTasks) × (getD (now used) i 0 < mostTypes))) × (now members ≡ membersOf (now listed)) ⌝ }
     ensures { λ r. ⌜ r ≡ unmeetable (now (units .entry)) (now (predecessors .entry))
         (scheduleOf len (now (listed .entry)) (now (used .entry)) (now (starts .entry)) (now (finishes .entry))) i ⌝ }
 {
-    let needed = plan::predecessors_of(predecessors, listed[i]);
+    let needed = plan::predecessors_of(predecessors, wide(listed[i]));
     let k = used[i];
     let start = starts[i];
     let mut hasty = false;
@@ -85,11 +116,11 @@ fn is_unmeetable<'a>(
     let mut j = 0;
     while j < len {
         let finish = finishes[j];
-        hasty = hasty | (task_set::contains(needed, listed[j]) & (start < finish));
+        hasty = hasty | (task_set::intersects(members[j], needed) & (start < finish));
         holders += held(used[j], k, starts[j], finish, start);
         j += 1;
     }
-    hasty | (units[k] < holders)
+    hasty | (units[wide(k)] < holders)
 }
 
 // 22: the first record that starts before a predecessor's finish, or at whose start its type has too few units, and the
@@ -98,8 +129,8 @@ fn first_unmeetable<'a>(
     units: &'a [u32; MOST_TYPES],
     predecessors: &'a [u64; MOST_TASKS],
     len: usize,
-    listed: &'a [usize; MOST_TASKS],
-    used: &'a [usize; MOST_TASKS],
+    listed: &'a [u32; MOST_TASKS],
+    used: &'a [u32; MOST_TASKS],
     starts: &'a [u32; MOST_TASKS],
     finishes: &'a [u32; MOST_TASKS],
 ) -> usize
@@ -107,9 +138,20 @@ fn first_unmeetable<'a>(
     ensures { λ r. ⌜ r ≡ first len (unmeetable (now (units .entry)) (now (predecessors .entry))
         (scheduleOf len (now (listed .entry)) (now (used .entry)) (now (starts .entry)) (now (finishes .entry)))) ⌝ }
 {
+    let sets = members(listed);
     let mut i = 0;
     while i < len {
-        if is_unmeetable(units, predecessors, len, listed, used, starts, finishes, i) {
+        if is_unmeetable(
+            units,
+            predecessors,
+            len,
+            listed,
+            &sets,
+            used,
+            starts,
+            finishes,
+            i,
+        ) {
             return i;
         }
         i += 1;
@@ -123,6 +165,19 @@ fn refused(number: u32, place: usize) -> Verdict
     Verdict { number, place }
 }
 
+// The same numbers, as the check takes them.
+fn widened(xs: [u32; MOST_TASKS]) -> [usize; MOST_TASKS]
+    ensures { λ r. ⌜ r ≡ xs ⌝ }
+{
+    let mut out = [0; MOST_TASKS];
+    let mut i = 0;
+    while i < MOST_TASKS {
+        out[i] = xs[i] as usize;
+        i += 1;
+    }
+    out
+}
+
 // The check sees to 8 and 20: the tasks of the list, in its own order, are each there once exactly if it does not say 9.
 pub fn judge(p: Plan, s: Schedule) -> Verdict
     ensures { λ r. ⌜ r ≡ judged p s ⌝ }
@@ -132,8 +187,8 @@ pub fn judge(p: Plan, s: Schedule) -> Verdict
         p,
         Constraint {
             len,
-            order: s.tasks,
-            chosen: s.types,
+            order: widened(s.tasks),
+            chosen: widened(s.types),
         },
     );
     if v.number == 8 {

@@ -28,8 +28,8 @@ pub struct Record {
 #[repr(C)]
 pub struct Schedule {
     pub len: usize,
-    pub tasks: [usize; MOST_TASKS],
-    pub types: [usize; MOST_TASKS],
+    pub tasks: [u32; MOST_TASKS],
+    pub types: [u32; MOST_TASKS],
     pub starts: [u32; MOST_TASKS],
     pub finishes: [u32; MOST_TASKS],
 }
@@ -40,6 +40,13 @@ pub struct Adoption {
     pub number: u32,
     pub place: usize,
     pub constraint: Constraint,
+}
+
+// The same number, as an index. A parameter is known to fit its type, an element behind a reference is not.
+fn wide(n: u32) -> usize
+    ensures { λ r. ⌜ r ≡ n ⌝ }
+{
+    n as usize
 }
 
 // The constraint of a schedule by columns. It passes the check, and its bound is at most the greatest finish.

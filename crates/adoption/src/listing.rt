@@ -39,8 +39,8 @@ fn columns(len: usize, records: [Record; MOST_TASKS]) -> Schedule
     let mut i = 0;
     while i < MOST_TASKS {
         let r = records[i];
-        tasks[i] = r.task as usize;
-        types[i] = r.unit_type as usize;
+        tasks[i] = r.task;
+        types[i] = r.unit_type;
         starts[i] = r.start;
         finishes[i] = r.finish;
         i += 1;

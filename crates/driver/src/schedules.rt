@@ -29,8 +29,8 @@ pub fn takes(s: Schedule, values: &[u64; fields::MOST]) -> bool {
 pub fn with(mut s: Schedule, values: &[u64; fields::MOST]) -> Schedule {
     let i = s.len;
     if i < MOST_TASKS {
-        s.tasks[i] = values[0] as usize;
-        s.types[i] = values[1] as usize;
+        s.tasks[i] = fields::narrow(values[0]);
+        s.types[i] = fields::narrow(values[1]);
         s.starts[i] = fields::narrow(values[2]);
         s.finishes[i] = fields::narrow(values[3]);
     }

@@ -1,8 +1,9 @@
 -- The laws of membership, each once over the width. Assumes nothing.
 use mathlib.Core.Path.{_≡_, refl, sym, ap, ap₂, _∙_, subst}
-use mathlib.Core.Bool.{Bool, true, false, cond, _&&_, _||_, not, and-true, and-false, or-true, or-false}
+use mathlib.Core.Bool.{Bool, true, false, cond, _&&_, _||_, not, and-true, and-false, or-true, or-false, Bool·not-not}
+use mathlib.Core.Logic.{⊎-elim}
 use Prim.Native.Nat.{ℕ, zero, suc, _+_, _-_, _*_, _/_, _%_, _^_, _≤_, _<_, zero-le, suc-le-suc, min, max}
-use native.Mathlib.Nat.{le-of-suc-le, le-of-suc-le-suc, not-suc-le-zero, zero-lt-suc, le-refl, mod-lt, div-one, div-eq-of-lt, zero-div, div-add-mod', lt-of-lt-of-le, lt-of-le-of-lt, div-lt-iff-lt-mul, pow-suc, one-mul, mod-le}
+use native.Mathlib.Nat.{le-of-suc-le, le-of-suc-le-suc, not-suc-le-zero, zero-lt-suc, le-refl, mod-lt, div-one, div-eq-of-lt, zero-div, div-add-mod', lt-of-lt-of-le, lt-of-le-of-lt, div-lt-iff-lt-mul, pow-suc, one-mul, zero-add, mod-le}
 use native.Mathlib.Numerals.{one-add, add-one}
 use native.Mathlib.Omega.{arith}
 use lib.Arith.{digits-div, digits-mod, lt-one}
@@ -11,10 +12,10 @@ use lib.Count.{ones, ones-step, trailingZeros, under}
 use lib.Dec.{eqb, ltb, eqb·zero-suc, eqb·suc-suc, lit<}
 use lib.Pow.{pow-pos, pow-mono, pow-lt, shl-exact, shr-shr, field, mod-mod-pow}
 use borrow.Author.Tests.{eq-eqb, eqb-true, ne-eqb, eqb-false, le-ltb, lt-ltb, ltb-true, ltb-false, not-true}
-use Rattle.task_set.specs.Bounded.{all, count, first, implies}
-use Rattle.task_set.specs.Sets.{width, has, insert, without, remove, setOf, below, lowest, size}
-use Rattle.task_set.proofs.Truth.{clash, by-test, same}
-use Rattle.task_set.proofs.Bounded.{all-intro, all-elim, count-cong, count-front, count-more}
+use Rattle.task_set.specs.Bounded.{all, any, count, first, implies}
+use Rattle.task_set.specs.Sets.{width, has, insert, without, remove, setOf, below, intersect, lowest, size}
+use Rattle.task_set.proofs.Truth.{clash, by-test, same, and-left, and-right, and-both, or-left, or-right, or-cases}
+use Rattle.task_set.proofs.Bounded.{all-intro, all-elim, any-intro, any-elim, any-cong, not-all, count-cong, count-front, count-more}
 use Rattle.task_set.proofs.Search.{First, first-is, first-cong}
 
 two-pos : zero < 2
@@ -249,6 +250,28 @@ apart-mask k a b l =
     (λ e. eq-eqb (bitAnd a b) 0
     (set-ext k (bitAnd a b) 0 (lt-of-le-of-lt (and-le-l a b) l) (pow-pos k)
     (λ t m. has-and t a b ∙ not-true _ (all-elim k (λ t. not (has a t && has b t)) e t m) ∙ sym (has-none t))))
+
+pub meet-mask : (k a b : ℕ) → a < 2 ^ k → not (eqb (bitAnd a b) 0) ≡ any k (λ t. has a t && has b t)
+meet-mask k a b l =
+    ap not (apart-mask k a b l) ∙ not-all k (λ t. not (has a t && has b t))
+    ∙ any-cong k _ _ (λ t m. Bool·not-not (has a t && has b t))
+
+-- the set with the one member t meets those sets that t is a member of
+pub one-meets : (t s : ℕ) → s < 2 ^ width → intersect (insert 0 t) s ≡ has s t
+unfolding intersect
+one-meets t s h =
+    same _ (has s t)
+    (λ e.
+    let r = any-elim width (λ u. has (insert 0 t) u && has s u) e in
+    let f = has-insert-low 0 t (r .0) (r .1) in
+    let g = and-left (has (insert 0 t) (r .0)) (has s (r .0)) (r .2) in
+    ap (has s) (eqb-true t (r .0) (rw (has-none (r .0)) at (sym f ∙ g)))
+    ∙ and-right (has (insert 0 t) (r .0)) (has s (r .0)) (r .2))
+    (λ e. by-test (ltb t width)
+    (λ f. let l = ltb-true t width f in
+    any-intro width (λ u. has (insert 0 t) u && has s u) t l
+    (and-both (has-insert 0 t t l ∙ or-right (has 0 t) (eq-eqb t t refl)) e))
+    (λ f. absurd (clash e (has-past width t h (ltb-false t width f)))))
 
 -- ---- the lowest member is the first one
 

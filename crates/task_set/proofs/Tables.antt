@@ -55,6 +55,14 @@ set-tabulate (suc n) f g (suc i) h =
     ap₂ _∷_ (h 0 (λ e. omega arith))
     (set-tabulate n (λ j. f (suc j)) (λ j. g (suc j)) i (λ j q. h (suc j) (λ e. q (omega arith))))
 
+-- the table of a list's entries is the list
+pub tabulate-getD : {A : Type 0} (n : ℕ) (xs : List A) (d : A) → length xs ≡ n → tabulate n (λ i. getD xs i d) ≡ xs
+unfolding tabulate
+tabulate-getD zero [] d e = refl
+tabulate-getD zero (x ∷ xs) d e = absurd (omega arith)
+tabulate-getD (suc n) [] d e = absurd (omega arith)
+tabulate-getD (suc n) (x ∷ xs) d e = ap₂ _∷_ refl (tabulate-getD n xs d (omega arith))
+
 -- ---- a table that a loop fills from the front: f below t, and a from there on
 
 module _ {A : Type 0} (n : ℕ) (f : ℕ → A) (a : A) where

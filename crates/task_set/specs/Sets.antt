@@ -1,9 +1,9 @@
 -- Sets of task numbers as 64-bit words: "a set of 64 bits, bit t for task t" (document 01, "The plan"). Assumes nothing.
-use mathlib.Core.Bool.{Bool, cond}
+use mathlib.Core.Bool.{Bool, cond, _&&_}
 use Prim.Native.Nat.{ℕ, zero, suc, _/_, _%_, _^_}
 use lib.Dec.{eqb, ltb}
 use lib.Bits.{bitAnd, bitOr, bitXor}
-use Rattle.task_set.specs.Bounded.{all, count, first, implies}
+use Rattle.task_set.specs.Bounded.{all, any, count, first, implies}
 
 -- how many numbers can be members
 abbrev pub width : ℕ
@@ -37,6 +37,10 @@ below s n = s % 2 ^ n
 -- every member of a is a member of b
 unfoldable pub subset : ℕ → ℕ → Bool
 subset a b = all width (λ t. implies (has a t) (has b t))
+
+-- a and b have a member in common
+unfoldable pub intersect : ℕ → ℕ → Bool
+intersect a b = any width (λ t. has a t && has b t)
 
 -- the lowest member, and the width where there is none
 unfoldable pub lowest : ℕ → ℕ

@@ -1,7 +1,7 @@
 // Sets of task numbers 0 to 63, as the bits of a word: bit t for task t.
 // Every function takes every number: one of 64 or more is in no set.
 ghost use mathlib.Core.Path.{_≡_};
-ghost use Rattle.task_set.specs.Sets.{below, has, insert, lowest, remove, size, subset, without};
+ghost use Rattle.task_set.specs.Sets.{below, has, insert, intersect, lowest, remove, size, subset, without};
 
 // How many numbers can be members.
 pub const WIDTH: usize = 64;
@@ -54,6 +54,13 @@ pub fn is_subset(a: u64, b: u64) -> bool
     ensures { λ r. ⌜ r ≡ subset a b ⌝ }
 {
     a & b == a
+}
+
+// Whether a and b have a member in common.
+pub fn intersects(a: u64, b: u64) -> bool
+    ensures { λ r. ⌜ r ≡ intersect a b ⌝ }
+{
+    a & b != 0
 }
 
 // The lowest member, and 64 for the empty set.

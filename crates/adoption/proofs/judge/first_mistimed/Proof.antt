@@ -3,8 +3,8 @@ use mathlib.Core.Path.{sym, _∙_}
 use Prim.Native.Nat.{_-_}
 use borrow.Author.Needs.{needs}
 use Rattle.task_set.proofs.Search.{Searched, searched-none, searched-more, search-found, search-ended}
+use Rattle.plan.specs.Refusals.{unusable}
 use Rattle.adoption.specs.Schedules.{scheduleOf, mistimed}
-use Rattle.adoption.proofs.Judging.{mistimed-by}
 use Rattle.adoption.proofs.judge.first_mistimed.Statement.{statement}
 use Rattle.adoption.proofs.judge.first_mistimed.Tie as tie
 
@@ -19,15 +19,16 @@ loop-holds : tie.Need-loop-holds Inv-loop μ-loop
 loop-holds c = searched-none
 
 returns : tie.Need-returns Inv-loop μ-loop
+unfolding mistimed unusable
 returns c =
-    search-found (c .before .before .before .before .before .before .before .before .loop .inv)
-    (sym (mistimed-by _ _ _ _ (c .before .before .before .before .time-of .ensures) (c .before .does-not-fit .ensures)) ∙ c .if1 .taken)
+    search-found (c .before .before .before .before .before .before .before .loop .inv)
+    (sym (c .before .does-not-fit .ensures) ∙ c .if1 .taken)
 
 loop-again : tie.Need-loop-again Inv-loop μ-loop
+unfolding mistimed unusable
 loop-again c =
-    let t = c .before .before .before .before .before .before .before in
-    searched-more (t .before .loop .inv) (t .loop-test .taken)
-    (sym (mistimed-by _ _ _ _ (c .before .before .before .before .time-of .ensures) (c .before .does-not-fit .ensures)) ∙ c .if1 .left)
+    let t = c .before .before .before .before .before .before in
+    searched-more (t .before .loop .inv) (t .loop-test .taken) (sym (c .before .does-not-fit .ensures) ∙ c .if1 .left)
 
 returns-2 : tie.Need-returns-2 Inv-loop μ-loop
 returns-2 c = search-ended (c .before .loop .inv) (c .loop-test .left)
@@ -35,6 +36,6 @@ returns-2 c = search-ended (c .before .loop .inv) (c .loop-test .left)
 pub first-mistimed-spec : {M : Type 1} → statement M
 first-mistimed-spec =
     tie.close
-    (tie.spec Inv-loop μ-loop loop-holds (λ c. search needs) (λ c. search needs) (λ c. search needs)
-    (λ c. search needs) (λ c κs. search needs) (λ c. search needs) (λ c. search needs) (λ c. search needs)
-    (λ c. search needs) (λ c κs. search needs) returns (λ c. search needs) (λ c. search needs) loop-again returns-2)
+    (tie.spec Inv-loop μ-loop loop-holds (λ c. search needs) (λ c. search needs) (λ c. search needs) (λ c. search needs)
+    (λ c. search needs) (λ c. search needs) (λ c. search needs) (λ c. search needs) (λ c κs. search needs) returns
+    (λ c. search needs) (λ c. search needs) loop-again returns-2)

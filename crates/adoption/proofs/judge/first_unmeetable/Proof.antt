@@ -8,25 +8,29 @@ use Rattle.adoption.proofs.judge.first_unmeetable.Statement.{statement}
 use Rattle.adoption.proofs.judge.first_unmeetable.Tie as tie
 
 abbrev Inv-loop : tie.InvT-loop
-Inv-loop units predecessors len listed used starts finishes i₀ i =
+Inv-loop units predecessors len listed used starts finishes sets i₀ i =
     Searched len (unmeetable units predecessors (scheduleOf len listed used starts finishes)) i
 
 abbrev μ-loop : tie.MeasureT-loop
-μ-loop units predecessors len listed used starts finishes i₀ i = len - i
+μ-loop units predecessors len listed used starts finishes sets i₀ i = len - i
 
 loop-holds : tie.Need-loop-holds Inv-loop μ-loop
 loop-holds c = searched-none
 
 is-unmeetable-requires : tie.Need-is-unmeetable-requires Inv-loop μ-loop
 is-unmeetable-requires c κs =
-    let l = c .loop-test .taken in (l, (c .before .before .pre .0, c .before .before .pre .1 _ l))
+    let l = c .before .loop-test .taken in
+    let m = c .before .before .before in
+    let pre = m .before .pre in
+    ((l, (pre .0, pre .1 _ l)), m .members .ensures)
 
 returns : tie.Need-returns Inv-loop μ-loop
-returns c = search-found (c .before .before .before .loop .inv) (sym (c .before .is-unmeetable .ensures) ∙ c .if1 .taken)
+returns c =
+    search-found (c .before .before .before .before .loop .inv) (sym (c .before .is-unmeetable .ensures) ∙ c .if1 .taken)
 
 loop-again : tie.Need-loop-again Inv-loop μ-loop
 loop-again c =
-    let t = c .before .before in
+    let t = c .before .before .before in
     searched-more (t .before .loop .inv) (t .loop-test .taken) (sym (c .before .is-unmeetable .ensures) ∙ c .if1 .left)
 
 returns-2 : tie.Need-returns-2 Inv-loop μ-loop
@@ -35,5 +39,5 @@ returns-2 c = search-ended (c .before .loop .inv) (c .loop-test .left)
 pub first-unmeetable-spec : {M : Type 1} → statement M
 first-unmeetable-spec =
     tie.close
-    (tie.spec Inv-loop μ-loop loop-holds is-unmeetable-requires returns (λ c. search needs) (λ c. search needs) loop-again
-    returns-2)
+    (tie.spec Inv-loop μ-loop (λ c κs. search needs) loop-holds is-unmeetable-requires returns
+    (λ c. search needs) (λ c. search needs) loop-again returns-2)

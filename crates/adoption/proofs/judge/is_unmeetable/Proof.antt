@@ -1,6 +1,7 @@
 -- `adoption::judge::is_unmeetable` meets its contract: what the records passed say. Assumes nothing.
 use mathlib.Core.Path.{refl}
 use Prim.Native.Nat.{ℕ, _-_}
+use native.Mathlib.Nat.{lt-of-lt-of-le}
 use native.Mathlib.Omega.{arith}
 use borrow.Author.Needs.{needs}
 use Rattle.task_set.specs.Bounded.{any, count}
@@ -12,51 +13,67 @@ use Rattle.adoption.proofs.judge.is_unmeetable.Statement.{statement}
 use Rattle.adoption.proofs.judge.is_unmeetable.Tie as tie
 
 abbrev Inv-loop : tie.InvT-loop
-Inv-loop units predecessors len listed used starts finishes i needed k start hasty₀ holders₀ j₀ hasty holders j =
+Inv-loop units predecessors len listed members used starts finishes i needed k start hasty₀ holders₀ j₀ hasty holders j =
     Upto (λ (n : ℕ). any n (delays needed (scheduleOf len listed used starts finishes) start)) len j hasty
     × Upto (λ (n : ℕ). count n (holds (scheduleOf len listed used starts finishes) k start)) len j holders
 
 abbrev μ-loop : tie.MeasureT-loop
-μ-loop units predecessors len listed used starts finishes i needed k start hasty₀ holders₀ j₀ hasty holders j =
+μ-loop units predecessors len listed members used starts finishes i needed k start hasty₀ holders₀ j₀ hasty holders j =
     len - j
 
 loop-holds : tie.Need-loop-holds Inv-loop μ-loop
 unfolding any count
 loop-holds c = (upto-none refl, upto-none refl)
 
+-- from the loop back to the needed tasks, and to the beginning
+abbrev wanted : tie.At-loop Inv-loop μ-loop → tie.After-predecessors-of Inv-loop μ-loop
+wanted l = l .before .before .before
+
+abbrev begun : tie.At-loop Inv-loop μ-loop → tie.Start Inv-loop μ-loop
+begun l = wanted l .before .before .before
+
 add-holders : tie.Need-add-holders Inv-loop μ-loop
 unfolding holds
 add-holders c =
     let t = c .before .before .before .before .before .before in
-    let l = t .before in
     omega (
       arith,
-      count-room _ _ (l .loop .inv .1 .is) (c .held .ensures),
+      count-room _ _ (t .before .loop .inv .1 .is) (c .held .ensures),
       t .loop-test .taken,
-      l .before .before .before .before .before .pre .1 .0,
+      begun (t .before) .pre .0 .1 .0,
     )
 
 loop-again : tie.Need-loop-again Inv-loop μ-loop
 unfolding holds
 loop-again c =
     let t = c .before .before .before .before .before .before in
-    let l = t .before in (
-      upto-more (t .loop-test .taken) (any-step _ _ (l .loop .inv .0 .is) (delays-by _ _ _ _ (c .before .before .before .contains .ensures))),
+    let l = t .before in
+    let pre = begun l .pre in (
+      upto-more (t .loop-test .taken)
+          (any-step _ _ (l .loop .inv .0 .is)
+          (delays-by _ _ _ _ (lt-of-lt-of-le (t .loop-test .taken) (pre .0 .1 .0)) (wanted l .predecessors-of .ok) (pre .1)
+          (c .before .before .before .intersects .ensures))),
       upto-more (t .loop-test .taken) (count-step _ _ (l .loop .inv .1 .is) (c .held .ensures)),
     )
 
+element-copy-out-result : tie.Need-element-copy-out-result Inv-loop μ-loop
+element-copy-out-result c =
+    let t = c .before in omega (arith, c .wide2 .ensures, begun (t .before) .pre .0 .1 .1)
+
 returns : tie.Need-returns Inv-loop μ-loop
 returns c =
-    let l = c .before .before in
-    unmeetable-by _ _ _ _ (l .before .before .before .predecessors-of .ensures)
-    (upto-end (l .loop .inv .0) (c .before .loop-test .left))
-    (upto-end (l .loop .inv .1) (c .before .loop-test .left))
+    let t = c .before .before in
+    let w = wanted (t .before) in
+    unmeetable-by _ _ _ _ (w .before .wide .ensures) (w .predecessors-of .ensures) (c .before .wide2 .ensures)
+    (upto-end (t .before .loop .inv .0) (t .loop-test .left))
+    (upto-end (t .before .loop .inv .1) (t .loop-test .left))
 
 pub is-unmeetable-spec : {M : Type 1} → statement M
 is-unmeetable-spec =
     tie.close
-    (tie.spec Inv-loop μ-loop (λ c. search needs) (λ c. search needs) (λ c κs. search needs) (λ c. search needs)
-    (λ c. search needs) (λ c. search needs) (λ c. search needs) loop-holds (λ c. search needs) (λ c. search needs)
-    (λ c. search needs) (λ c. search needs) (λ c κs. search needs) (λ c. search needs) (λ c. search needs)
-    (λ c. search needs) (λ c. search needs) (λ c κs. search needs) add-holders (λ c. search needs)
-    (λ c. search needs) loop-again (λ c. search needs) (λ c. search needs) returns)
+    (tie.spec Inv-loop μ-loop (λ c. search needs) (λ c. search needs) (λ c κs. search needs) (λ c κs. search needs)
+    (λ c. search needs) (λ c. search needs) (λ c. search needs) (λ c. search needs) loop-holds (λ c. search needs)
+    (λ c. search needs) (λ c. search needs) (λ c. search needs) (λ c κs. search needs) (λ c. search needs)
+    (λ c. search needs) (λ c. search needs) (λ c. search needs) (λ c κs. search needs) add-holders
+    (λ c. search needs) (λ c. search needs) loop-again (λ c κs. search needs) (λ c. search needs)
+    element-copy-out-result returns)
