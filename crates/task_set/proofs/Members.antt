@@ -1,9 +1,8 @@
 -- The laws of membership, each once over the width. Assumes nothing.
 use mathlib.Core.Path.{_≡_, refl, sym, ap, ap₂, _∙_, subst}
 use mathlib.Core.Bool.{Bool, true, false, cond, _&&_, _||_, not, and-true, and-false, or-true, or-false, Bool·not-not}
-use mathlib.Core.Logic.{⊎-elim}
 use Prim.Native.Nat.{ℕ, zero, suc, _+_, _-_, _*_, _/_, _%_, _^_, _≤_, _<_, zero-le, suc-le-suc, min, max}
-use native.Mathlib.Nat.{le-of-suc-le, le-of-suc-le-suc, not-suc-le-zero, zero-lt-suc, le-refl, mod-lt, div-one, div-eq-of-lt, zero-div, div-add-mod', lt-of-lt-of-le, lt-of-le-of-lt, div-lt-iff-lt-mul, pow-suc, one-mul, zero-add, mod-le}
+use native.Mathlib.Nat.{le-of-suc-le, le-of-suc-le-suc, not-suc-le-zero, zero-lt-suc, le-refl, mod-lt, div-one, div-eq-of-lt, zero-div, div-add-mod', lt-of-lt-of-le, lt-of-le-of-lt, div-lt-iff-lt-mul, pow-suc, one-mul, mod-le}
 use native.Mathlib.Numerals.{one-add, add-one}
 use native.Mathlib.Omega.{arith}
 use lib.Arith.{digits-div, digits-mod, lt-one}
@@ -14,7 +13,7 @@ use lib.Pow.{pow-pos, pow-mono, pow-lt, shl-exact, shr-shr, field, mod-mod-pow}
 use borrow.Author.Tests.{eq-eqb, eqb-true, ne-eqb, eqb-false, le-ltb, lt-ltb, ltb-true, ltb-false, not-true}
 use Rattle.task_set.specs.Bounded.{all, any, count, first, implies}
 use Rattle.task_set.specs.Sets.{width, has, insert, without, remove, setOf, below, intersect, lowest, size}
-use Rattle.task_set.proofs.Truth.{clash, by-test, same, and-left, and-right, and-both, or-left, or-right, or-cases}
+use Rattle.task_set.proofs.Truth.{clash, by-test, same, and-left, and-right, and-both, or-right}
 use Rattle.task_set.proofs.Bounded.{all-intro, all-elim, any-intro, any-elim, any-cong, not-all, count-cong, count-front, count-more}
 use Rattle.task_set.proofs.Search.{First, first-is, first-cong}
 
