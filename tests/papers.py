@@ -89,6 +89,21 @@ def output(program, text):
     return subprocess.run([PROGRAMS / program[0], *program[1:]], input=text, capture_output=True, check=True, timeout=60).stdout.decode()
 
 
+def check_schedule(guide):
+    """The schedule of the chapter, without the words beside it, is the example; its order and the timetable of that order stand below it."""
+    chapter = guide.split("## Schedules from other tools")[1]
+    listing, order, timetable = chapter.split("```\n")[1:6:2]
+    shown = "".join(line.split()[0].replace("⇥", "\t") + "\n" for line in listing.splitlines())
+    must(shown == read(TOP / "examples/schedules/two-cameras.txt"), "guide: the schedule")
+    lines = read(TOP / "examples/two-cameras.txt").splitlines(keepends=True)
+    plan = "".join(line for line in lines if not line.startswith("C")) + order.replace("⇥", "\t")
+    printed = output(["benchplan"], plan.encode())
+    must(printed == timetable.replace("⇥", "\t"), "guide: the timetable of the schedule's order")
+    last = max(int(line.split()[3]) for line in shown.splitlines())
+    bound = printed.split()[-1]
+    must(f"`last finish {last}, bound {bound}`" in chapter, "guide: the schedule's last finish and its bound")
+
+
 def check_guide():
     """What the programs print stands in the guide, with its sign for tabs."""
     guide = read(DOCS / "USER-GUIDE.md")
@@ -100,6 +115,7 @@ def check_guide():
         shown = output(["margins"], (TOP / "examples" / plan).read_bytes()).replace("\t", "⇥")
         must(shown in guide, f"guide: the margins of {plan}")
     must(output(["show", "why"], (TOP / "examples/two-cameras.txt").read_bytes()) in guide, "guide: why")
+    check_schedule(guide)
     told = output(["show", "explain"], (CRATES / "show/stdin").read_bytes())
     must("".join(f"benchplan: {line}\n" for line in told.splitlines()) in guide, "guide: the sentence of a refusal")
 

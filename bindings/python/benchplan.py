@@ -11,6 +11,7 @@ leaves the caller with the state that it had. Build the shared object with ./bui
 target/lib, the environment variable BENCHPLAN_LIBRARY is its path.
 """
 import ctypes
+import operator
 import os
 import pathlib
 from collections import namedtuple
@@ -171,12 +172,15 @@ def _lent_times(times):
 
 def _lent_records(records):
     """The same for records of a schedule. No number is cut off: one that does not fit 32 bits does not reach the library."""
-    records = [Record(*record) for record in records]
+    lent = []
     for record in records:
-        for number in record:
-            if not 0 <= number <= 0xFFFFFFFF:
-                raise ValueError(f"{record}: {number} does not fit 32 bits")
-    return _lent(_Record, records)
+        try:
+            lent.append(Record(*map(operator.index, record)))
+        except TypeError:
+            raise TypeError(f"not a record of four whole numbers: {record!r}") from None
+        if not all(0 <= number <= 0xFFFFFFFF for number in lent[-1]):
+            raise ValueError(f"a number is not from 0 to {0xFFFFFFFF}: {lent[-1]}")
+    return _lent(_Record, lent)
 
 
 def _set_of(tasks):
@@ -254,8 +258,9 @@ class Plan:
         return Margins(reply.any, reply.least, reply.task, list(reply.slacks))
 
     def adopt(self, records):
-        """The same plan with the order of a schedule that was worked out elsewhere: one record of task, type, start and finish for each task;
-        20, 21, 22, and no other but 8. The check takes the plan given, and its bound is at most the records' greatest finish."""
+        """The same plan with the order of a schedule that was worked out elsewhere: for each task one record of task, type, start and finish, four
+        whole numbers from 0 to 4294967295 (ValueError); 20, 21, 22, and no other but 8. The check takes the plan that comes back, and its bound
+        is at most the records' greatest finish."""
         reply = _accepted(_library.bench_adopt(self._plan, *_lent_records(records)))
         return Plan(self._plan, reply.constraint)
 

@@ -49,7 +49,9 @@ assert refusal_of(plan.adopt, schedule[:4] + [(4, 1, 20, 22)]) == (21, 4)
 assert refusal_of(plan.adopt, schedule[:4] + [(4, 0, 2**32 - 1, 1)]) == (21, 4)
 assert refusal_of(plan.adopt, schedule[:4] + [(4, 0, 15, 17)]) == (22, 4)
 assert raises(ValueError, plan.adopt, schedule[:4] + [(4, 0, 2**32 - 3, 2**32 + 2**32 - 1)])
-assert raises(ValueError, plan.adopt, schedule[:4] + [(-1, 0, 20, 22)]) and raises(TypeError, plan.adopt, [(0, 0, 0)])
+assert raises(ValueError, plan.adopt, schedule[:4] + [(-1, 0, 20, 22)])
+for odd in (0, 0, 0), (0, 0, 0, 2, 2), (0, 0, 0.0, 2), "0002", (0, 0, None, 2), 0:
+    assert raises(TypeError, plan.adopt, [odd])
 assert refusal_of(benchplan.read(b"").adopt, schedule) == (8, 0)
 
 # Rooms: 19 tells the bytes that are needed.

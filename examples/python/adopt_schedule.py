@@ -1,5 +1,6 @@
-"""The plan text with the order of a schedule that was worked out elsewhere. A plan text in one file, its C lines ignored; in the other a line for
-each record: task, type, start and finish, with blanks or tabs between. Writes the text, for ./benchplan, to standard output.
+"""The plan text with the order of a schedule that was worked out elsewhere. A plan text in one file, with C lines or without; in the other a line for
+each record: task, type, start and finish, with tabs or blanks between. Writes the text, for ./benchplan, to standard output; says on standard error the
+schedule's last finish and the bound, or what is wrong (exit status 1, and nothing is written).
 Use: PYTHONPATH=bindings/python python3 examples/python/adopt_schedule.py PLAN SCHEDULE > NEW-PLAN
 """
 import sys
@@ -7,42 +8,48 @@ import benchplan
 
 
 def records_of(path):
-    """The records, each with its line in the file; a line without words is none."""
-    for line, text in enumerate(open(path), 1):
-        words = text.split()
-        if words:
-            try:
+    """The records, each with its line in the file; a blank line is none."""
+    with open(path, encoding="utf-8-sig", errors="replace") as file:
+        for line, text in enumerate(file, 1):
+            words = text.split()
+            if words:
+                if len(words) != 4 or not all(word.isascii() and word.isdigit() for word in words):
+                    sys.exit(f"{path}, line {line}: not task, type, start and finish: {text.strip()}")
                 yield line, benchplan.Record(*map(int, words))
-            except (TypeError, ValueError):
-                sys.exit(f"{path}, line {line}: not task, type, start and finish")
 
 
-def where(refusal, listed):
-    """The line that a refusal speaks of. The place of 20 may be the count of records, which is no record's."""
-    if refusal.number > 8 and refusal.place < len(listed):
-        line, record = listed[refusal.place]
-        return f" (line {line}: {' '.join(map(str, record))})"
-    return ""
+def sentence(refusal, plan_path, schedule_path, listed):
+    """What is refused, and where: the plan, the count of records, or a record, which is shown with its line."""
+    if refusal.number == 8:
+        return f"{plan_path} is {refusal}. ./benchplan {plan_path} says which"
+    if refusal.place == len(listed):
+        return f"{schedule_path} is {refusal}. It has {len(listed)} records"
+    line, record = listed[refusal.place]
+    return f"{schedule_path} is {refusal}. Line {line}: {' '.join(map(str, record))}"
 
 
 def main(plan_path, schedule_path):
-    lines = open(plan_path, "rb").read().splitlines(keepends=True)
-    text = b"".join(line for line in lines if not line.startswith(b"C"))
+    with open(plan_path, "rb") as file:
+        text = file.read()
     listed = list(records_of(schedule_path))
     try:
         plan = benchplan.read(text)
     except benchplan.Refused as refusal:
-        sys.exit(f"the text is refused: {refusal}")
+        sys.exit(f"{plan_path} is {refusal}. ./benchplan {plan_path} says why")
     try:
         adopted = plan.adopt(record for line, record in listed)
     except benchplan.Refused as refusal:
-        sys.exit(f"the schedule is {refusal}{where(refusal, listed)}")
+        sys.exit(sentence(refusal, plan_path, schedule_path, listed))
     except ValueError as error:
-        sys.exit(f"the schedule has a number that is no number of a record: {error}")
-    print(f"greatest finish {max(record.finish for line, record in listed)}, bound {adopted.bound().response}", file=sys.stderr)
-    sys.stdout.buffer.write(text + b"".join(b"C\t%d\t%d\n" % entry for entry in adopted.order))
+        sys.exit(f"{schedule_path}: {error}")
+    print(f"last finish {max(record.finish for line, record in listed)}, bound {adopted.bound().response}", file=sys.stderr)
+    kept = (line for line in text.splitlines(keepends=True) if not line.startswith(b"C"))
+    sys.stdout.buffer.write(b"".join(kept) + b"".join(b"C\t%d\t%d\n" % entry for entry in adopted.order))
 
 
 if len(sys.argv) != 3:
     sys.exit("use: adopt_schedule.py PLAN SCHEDULE > NEW-PLAN")
-main(*sys.argv[1:])
+try:
+    main(*sys.argv[1:])
+except OSError as error:
+    sys.exit(f"adopt_schedule.py: {error}")

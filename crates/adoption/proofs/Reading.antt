@@ -1,12 +1,11 @@
 -- The records, as the loop over the lent list copies them, and their columns. Assumes nothing.
 use mathlib.Core.Path.{_≡_, refl, sym, ap, _∙_}
-use mathlib.Core.List.{List, [], _∷_}
-use Prim.Native.Nat.{ℕ, zero, suc, _+_, _≤_, _<_}
-use native.Mathlib.Nat.{le-of-suc-le-suc, not-suc-le-zero}
+use mathlib.Core.List.{List}
+use Prim.Native.Nat.{ℕ, _+_, _≤_, _<_}
 use native.Mathlib.Omega.{arith}
 use borrow.Author.Tests.{ltb-true, ltb-false}
 use lib.Dec.{ltb}
-use lib.ListN.{length, getD, replicate, set}
+use lib.ListN.{length, getD, replicate, set, List·getD-eq-default}
 use Rattle.task_set.proofs.Truth.{by-test}
 use Rattle.task_set.proofs.Tables.{length-tabulate, tabulate-cong, getD-tabulate, filledTo, filled-none, filled-more}
 use Rattle.plan.specs.Rules.{mostTasks}
@@ -26,11 +25,6 @@ past-kept : (n k : ℕ) → kept n ≤ k → k < mostTasks → n ≤ k
 unfolding kept
 past-kept n k l m =
     by-test (ltb n mostTasks) (λ e. rw e at l) (λ e. absurd (let h : mostTasks ≤ k = rw e at l in omega arith))
-
-nothing-past : (records : List Record) (k : ℕ) → length records ≤ k → getD records k noRecord ≡ noRecord
-nothing-past [] k l = refl
-nothing-past (r ∷ rest) zero l = absurd (not-suc-le-zero l)
-nothing-past (r ∷ rest) (suc k) l = nothing-past rest k (le-of-suc-le-suc l)
 
 module _ (records : List Record) where
   -- the first i records are copied
@@ -56,7 +50,7 @@ module _ (records : List Record) where
       tabulate-cong mostTasks _ _
       (λ k l. ap field (getD-tabulate mostTasks _ k noRecord l
       ∙ by-test (ltb k (kept (length records))) (λ e. rw e refl)
-      (λ e. rw e (sym (nothing-past records k (past-kept (length records) k (ltb-false k (kept (length records)) e) l))))))
+      (λ e. rw e (sym (List·getD-eq-default records noRecord (past-kept (length records) k (ltb-false k (kept (length records)) e) l))))))
 
   pub read-all : (xs : List Record) → xs ≡ readTo (kept (length records))
       → scheduleOf (length records) (column (λ r. r .task) xs) (column (λ r. r .«unit_type») xs) (column (λ r. r .start) xs)

@@ -6,7 +6,7 @@ ghost use lib.Dec.{eqb, leb, ltb};
 ghost use lib.ListN.{getD};
 ghost use Rattle.task_set.specs.Bounded.{first};
 ghost use Rattle.task_set.specs.Sets.{insert};
-ghost use Rattle.plan.specs.Refusals.{refused as refusedAt};
+ghost use Rattle.plan.specs.Refusals.{constraintOf, refused as refusedAt};
 ghost use Rattle.plan.specs.Rules.{mostTasks, mostTypes, timeOf, usable};
 ghost use Rattle.adoption.specs.Schedules.{judged, mistimed, scheduleOf, unmeetable};
 ghost use Rattle.adoption.specs.Steps.{membersOf};
@@ -42,18 +42,18 @@ fn first_mistimed<'a>(
     types: usize,
     wcet: &'a [u32; MOST_PAIRS],
     len: usize,
-    listed: &'a [u32; MOST_TASKS],
+    tasks: &'a [u32; MOST_TASKS],
     used: &'a [u32; MOST_TASKS],
     starts: &'a [u32; MOST_TASKS],
     finishes: &'a [u32; MOST_TASKS],
 ) -> usize
     requires { ⌜ len ≤ mostTasks ⌝ }
     ensures { λ r. ⌜ r ≡ first len (mistimed types (now (wcet .entry))
-        (scheduleOf len (now (listed .entry)) (now (used .entry)) (now (starts .entry)) (now (finishes .entry)))) ⌝ }
+        (scheduleOf len (now (tasks .entry)) (now (used .entry)) (now (starts .entry)) (now (finishes .entry)))) ⌝ }
 {
     let mut i = 0;
     while i < len {
-        if does_not_fit(types, wcet, listed[i], used[i], starts[i], finishes[i]) {
+        if does_not_fit(types, wcet, tasks[i], used[i], starts[i], finishes[i]) {
             return i;
         }
         i += 1;
@@ -80,13 +80,13 @@ fn member(t: u32) -> u64
 }
 
 // The same of each task of a list.
-fn members(listed: &[u32; MOST_TASKS]) -> [u64; MOST_TASKS]
-    ensures { λ r. ⌜ r ≡ membersOf (now (listed .entry)) ⌝ }
+fn members(tasks: &[u32; MOST_TASKS]) -> [u64; MOST_TASKS]
+    ensures { λ r. ⌜ r ≡ membersOf (now (tasks .entry)) ⌝ }
 {
     let mut out = [0; MOST_TASKS];
     let mut i = 0;
     while i < MOST_TASKS {
-        out[i] = member(listed[i]);
+        out[i] = member(tasks[i]);
         i += 1;
     }
     out
@@ -97,18 +97,18 @@ fn is_unmeetable<'a>(
     units: &'a [u32; MOST_TYPES],
     predecessors: &'a [u64; MOST_TASKS],
     len: usize,
-    listed: &'a [u32; MOST_TASKS],
+    tasks: &'a [u32; MOST_TASKS],
     members: &'a [u64; MOST_TASKS],
     used: &'a [u32; MOST_TASKS],
     starts: &'a [u32; MOST_TASKS],
     finishes: &'a [u32; MOST_TASKS],
     i: usize,
 ) -> bool
-    requires { ⌜ ((i < len) × ((len ≤ mostTasks) × (getD (now used) i 0 < mostTypes))) × (now members ≡ membersOf (now listed)) ⌝ }
+    requires { ⌜ ((i < len) × ((len ≤ mostTasks) × (getD (now used) i 0 < mostTypes))) × (now members ≡ membersOf (now tasks)) ⌝ }
     ensures { λ r. ⌜ r ≡ unmeetable (now (units .entry)) (now (predecessors .entry))
-        (scheduleOf len (now (listed .entry)) (now (used .entry)) (now (starts .entry)) (now (finishes .entry))) i ⌝ }
+        (scheduleOf len (now (tasks .entry)) (now (used .entry)) (now (starts .entry)) (now (finishes .entry))) i ⌝ }
 {
-    let needed = plan::predecessors_of(predecessors, wide(listed[i]));
+    let needed = plan::predecessors_of(predecessors, wide(tasks[i]));
     let k = used[i];
     let start = starts[i];
     let mut hasty = false;
@@ -129,23 +129,23 @@ fn first_unmeetable<'a>(
     units: &'a [u32; MOST_TYPES],
     predecessors: &'a [u64; MOST_TASKS],
     len: usize,
-    listed: &'a [u32; MOST_TASKS],
+    tasks: &'a [u32; MOST_TASKS],
     used: &'a [u32; MOST_TASKS],
     starts: &'a [u32; MOST_TASKS],
     finishes: &'a [u32; MOST_TASKS],
 ) -> usize
     requires { ⌜ (len ≤ mostTasks) × ((i : ℕ) → i < len → getD (now used) i 0 < mostTypes) ⌝ }
     ensures { λ r. ⌜ r ≡ first len (unmeetable (now (units .entry)) (now (predecessors .entry))
-        (scheduleOf len (now (listed .entry)) (now (used .entry)) (now (starts .entry)) (now (finishes .entry)))) ⌝ }
+        (scheduleOf len (now (tasks .entry)) (now (used .entry)) (now (starts .entry)) (now (finishes .entry)))) ⌝ }
 {
-    let sets = members(listed);
+    let sets = members(tasks);
     let mut i = 0;
     while i < len {
         if is_unmeetable(
             units,
             predecessors,
             len,
-            listed,
+            tasks,
             &sets,
             used,
             starts,
@@ -178,19 +178,27 @@ fn widened(xs: [u32; MOST_TASKS]) -> [usize; MOST_TASKS]
     out
 }
 
-// The check sees to 8 and 20: the tasks of the list, in its own order, are each there once exactly if it does not say 9.
+// The list as an order, as its records come.
+fn as_order(s: Schedule) -> Constraint
+    ensures { λ r. ⌜ r ≡ constraintOf (s .len) (s .tasks) (s .types) ⌝ }
+{
+    let tasks = s.tasks;
+    let types = s.types;
+    let order = widened(tasks);
+    let chosen = widened(types);
+    Constraint {
+        len: s.len,
+        order,
+        chosen,
+    }
+}
+
+// The check, on the list as an order, says 8 where 8 is due, and 9 where 20 is.
 pub fn judge(p: Plan, s: Schedule) -> Verdict
     ensures { λ r. ⌜ r ≡ judged p s ⌝ }
 {
     let len = s.len;
-    let v = plan::check(
-        p,
-        Constraint {
-            len,
-            order: widened(s.tasks),
-            chosen: widened(s.types),
-        },
-    );
+    let v = plan::check(p, as_order(s));
     if v.number == 8 {
         return refused(8, 0);
     }

@@ -27,7 +27,7 @@ fn blank() -> [Record; MOST_TASKS]
     [none; MOST_TASKS]
 }
 
-// The columns of the records that are read, of so many.
+// The columns of 64 records, of a list of so many.
 fn columns(len: usize, records: [Record; MOST_TASKS]) -> Schedule
     ensures { λ r. ⌜ r ≡ scheduleOf len (column (λ r. r .task) records) (column (λ r. r .«unit_type») records)
         (column (λ r. r .start) records) (column (λ r. r .finish) records) ⌝ }

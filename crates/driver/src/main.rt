@@ -18,7 +18,7 @@
 //   P part i value   put: a value into the kept plan or constraint
 //   R part i value   put: a value into the run state, or into its own plan or constraint
 //   E task type start finish
-//                    put: one more record of a schedule, at most 80
+//                    put: one more record of a schedule, four numbers of 32 bits, at most 80 records
 //   L                adopt number place length, then the task and the type of entries 0 to 63 of the constraint that the
 //                    schedule gives: it is kept if accepted. The list of records is empty again
 //

@@ -9,11 +9,11 @@ use Rattle.adoption.proofs.judge.first_mistimed.Statement.{statement}
 use Rattle.adoption.proofs.judge.first_mistimed.Tie as tie
 
 abbrev Inv-loop : tie.InvT-loop
-Inv-loop types wcet len listed used starts finishes i₀ i =
-    Searched len (mistimed types wcet (scheduleOf len listed used starts finishes)) i
+Inv-loop types wcet len tasks used starts finishes i₀ i =
+    Searched len (mistimed types wcet (scheduleOf len tasks used starts finishes)) i
 
 abbrev μ-loop : tie.MeasureT-loop
-μ-loop types wcet len listed used starts finishes i₀ i = len - i
+μ-loop types wcet len tasks used starts finishes i₀ i = len - i
 
 loop-holds : tie.Need-loop-holds Inv-loop μ-loop
 loop-holds c = searched-none

@@ -13,12 +13,12 @@ use Rattle.adoption.proofs.judge.is_unmeetable.Statement.{statement}
 use Rattle.adoption.proofs.judge.is_unmeetable.Tie as tie
 
 abbrev Inv-loop : tie.InvT-loop
-Inv-loop units predecessors len listed members used starts finishes i needed k start hasty₀ holders₀ j₀ hasty holders j =
-    Upto (λ (n : ℕ). any n (delays needed (scheduleOf len listed used starts finishes) start)) len j hasty
-    × Upto (λ (n : ℕ). count n (holds (scheduleOf len listed used starts finishes) k start)) len j holders
+Inv-loop units predecessors len tasks members used starts finishes i needed k start hasty₀ holders₀ j₀ hasty holders j =
+    Upto (λ (n : ℕ). any n (delays needed (scheduleOf len tasks used starts finishes) start)) len j hasty
+    × Upto (λ (n : ℕ). count n (holds (scheduleOf len tasks used starts finishes) k start)) len j holders
 
 abbrev μ-loop : tie.MeasureT-loop
-μ-loop units predecessors len listed members used starts finishes i needed k start hasty₀ holders₀ j₀ hasty holders j =
+μ-loop units predecessors len tasks members used starts finishes i needed k start hasty₀ holders₀ j₀ hasty holders j =
     len - j
 
 loop-holds : tie.Need-loop-holds Inv-loop μ-loop

@@ -1,11 +1,9 @@
 -- `adoption::judge::judge` meets its contract. Assumes nothing.
-use mathlib.Core.Path.{_≡_, ap₂, _∙_}
-use mathlib.Core.List.{List}
-use Prim.Native.Nat.{ℕ}
+use mathlib.Core.Path.{_≡_, ap, _∙_}
 use native.Mathlib.Nat.{le-trans, le-of-eq}
 use borrow.Author.Needs.{needs}
 use Rattle.plan.specs.declared.Plan.{Plan}
-use Rattle.plan.specs.Refusals.{constraintOf, verdict}
+use Rattle.plan.specs.Refusals.{verdict}
 use Rattle.plan.proofs.Kept.{few-tasks}
 use Rattle.adoption.specs.declared.Schedule.{Schedule}
 use Rattle.adoption.proofs.Checking.{asListed, Ordered, ordered, says-8, says-20, says-21, says-22, takes, types-known}
@@ -21,14 +19,10 @@ past-21 c = c .before .before .before .before .before .before .before .before .b
 
 -- the plan and the schedule that are handed over
 abbrev asked : tie.After-check → Plan × Schedule
-asked c = let g = c .before .before .before .before .before .args in (g .t1, g .t2)
+asked c = let g = c .before .before .args in (g .t1, g .t2)
 
--- the columns are the same when they are widened
 said : (c : tie.After-check) → c .check .result ≡ verdict (asked c .0) (asListed (asked c .0) (asked c .1))
-said c =
-    c .check .ensures
-    ∙ ap₂ (λ (order chosen : List ℕ). verdict (asked c .0) (constraintOf (asked c .1 .len) order chosen))
-    (c .before .before .before .widened .ensures) (c .before .widened2 .ensures)
+said c = c .check .ensures ∙ ap (verdict (asked c .0)) (c .before .as-order .ensures)
 
 -- the check has said neither 8 nor 9
 passed : (c : tie.Else2) → let g = asked (c .before .before .before .before) in Ordered (g .0) (g .1)
@@ -79,5 +73,5 @@ returns-5 c =
 pub judge-spec : {M : Type 1} → statement M
 judge-spec =
     tie.close
-    (tie.spec (λ c κs. search needs) (λ c κs. search needs) (λ c κs. search needs) (λ c κs. search needs) returns (λ c κs. search needs) returns-2 first-mistimed-requires
+    (tie.spec (λ c κs. search needs) (λ c κs. search needs) (λ c κs. search needs) returns (λ c κs. search needs) returns-2 first-mistimed-requires
     (λ c κs. search needs) returns-3 first-unmeetable-requires (λ c κs. search needs) returns-4 (λ c κs. search needs) returns-5)

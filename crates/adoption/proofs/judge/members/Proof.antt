@@ -13,10 +13,10 @@ use Rattle.adoption.proofs.judge.members.Statement.{statement}
 use Rattle.adoption.proofs.judge.members.Tie as tie
 
 abbrev Inv-loop : tie.InvT-loop
-Inv-loop listed out₀ i₀ out i = Upto (filledTo mostTasks (λ j. insert 0 (getD listed j 0)) 0) mostTasks i out
+Inv-loop tasks out₀ i₀ out i = Upto (filledTo mostTasks (λ j. insert 0 (getD tasks j 0)) 0) mostTasks i out
 
 abbrev μ-loop : tie.MeasureT-loop
-μ-loop listed out₀ i₀ out i = mostTasks - i
+μ-loop tasks out₀ i₀ out i = mostTasks - i
 
 loop-holds : tie.Need-loop-holds Inv-loop μ-loop
 loop-holds c = upto-none (filled-none mostTasks _ 0)
