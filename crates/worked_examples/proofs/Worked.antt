@@ -28,7 +28,7 @@ worked =
     limit-rows = (refl, (refl, (refl, tt)))
 
     schedule-rows : Holds scheduleTable
-    schedule-rows = (refl, (refl, (refl, (refl, (refl, (refl, (refl, (refl, (refl, limit-rows)))))))))
+    schedule-rows = (refl, (refl, (refl, (refl, (refl, (refl, (refl, (refl, (refl, (refl, (refl, limit-rows)))))))))))
 
     margin-rows : Holds marginTable
     margin-rows = (refl, (refl, (refl, schedule-rows)))

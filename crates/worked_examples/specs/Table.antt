@@ -113,13 +113,16 @@ limitTable =
     ∷ []
 
 -- schedules of plan A (document 02, 5): its own timetable, last record first, where task 1 starts at the finish of task 0 on the
--- same unit; one with gaps, whose bound is smaller than its greatest finish; then 20, 21 and 22
+-- same unit; one with gaps, whose bound is smaller than its greatest finish; one where task 2 starts before task 1 and does not finish
+-- before it; then 20, 21 and 22
 unfoldable pub scheduleTable : List Row
 scheduleTable =
     row (adoptFully (rec 4 0 6 8 ∷ rec 3 1 5 8 ∷ rec 2 1 2 6 ∷ rec 1 0 2 5 ∷ rec 0 0 0 2 ∷ []))
     (0 ∷ 0 ∷ 5 ∷ 0 ∷ 1 ∷ 2 ∷ 3 ∷ 4 ∷ 0 ∷ 0 ∷ 0 ∷ 1 ∷ 1 ∷ 0 ∷ 0 ∷ 8 ∷ 8 ∷ [])
     ∷ row (adoptFully (rec 0 0 10 12 ∷ rec 1 0 0 3 ∷ rec 2 1 12 16 ∷ rec 3 1 3 6 ∷ rec 4 0 20 22 ∷ []))
     (0 ∷ 0 ∷ 5 ∷ 1 ∷ 3 ∷ 0 ∷ 2 ∷ 4 ∷ 0 ∷ 0 ∷ 1 ∷ 0 ∷ 1 ∷ 0 ∷ 0 ∷ 11 ∷ 22 ∷ [])
+    ∷ row (adoptFully (rec 0 0 0 2 ∷ rec 1 0 3 6 ∷ rec 2 1 2 6 ∷ rec 3 1 6 9 ∷ rec 4 0 6 8 ∷ []))
+    (0 ∷ 0 ∷ 5 ∷ 0 ∷ 2 ∷ 1 ∷ 3 ∷ 4 ∷ 0 ∷ 0 ∷ 1 ∷ 0 ∷ 1 ∷ 0 ∷ 0 ∷ 8 ∷ 9 ∷ [])
     -- 20: four records, sixty-five, a task twice, one that is absent
     ∷ row (adopt (take 4 (withTask4 0 6 8)) ++ adopt (replicate 65 (rec 0 0 0 2))) (20 ∷ 4 ∷ 0 ∷ 20 ∷ 65 ∷ 0 ∷ [])
     ∷ row (adopt (rec 0 0 0 2 ∷ rec 1 1 2 5 ∷ rec 2 1 2 6 ∷ rec 0 0 5 7 ∷ rec 4 0 6 9 ∷ [])) (20 ∷ 3 ∷ 0 ∷ [])
@@ -127,9 +130,11 @@ scheduleTable =
     -- 21: a type that task 4 cannot use, and one that is absent, where the worst time is 0; a finish one too late, one that wraps around
     ∷ row (adopt (withTask4 1 6 6) ++ adopt (withTask4 2 6 6)) (21 ∷ 4 ∷ 0 ∷ 21 ∷ 4 ∷ 0 ∷ [])
     ∷ row (adopt (withTask4 0 6 9) ++ adopt (withTask4 0 4294967295 1)) (21 ∷ 4 ∷ 0 ∷ 21 ∷ 4 ∷ 0 ∷ [])
-    -- 22: task 4 starts before task 2 has finished, and, taken, as late as it can; task 1 starts beside task 0 on the one unit of type 0
+    -- 22: task 4 starts before task 2 has finished, and, taken, as late as it can; task 1 starts beside task 0 on the one unit of type 0,
+    -- and 21 comes first where task 4 finishes too late besides
     ∷ row (adopt (withTask4 0 5 7) ++ adopt (withTask4 0 4294967293 4294967295)) (22 ∷ 4 ∷ 0 ∷ 0 ∷ 0 ∷ 5 ∷ [])
     ∷ row (adopt (rec 0 0 0 2 ∷ rec 1 0 1 4 ∷ rec 2 1 2 6 ∷ rec 3 1 4 7 ∷ rec 4 0 6 8 ∷ [])) (22 ∷ 1 ∷ 0 ∷ [])
+    ∷ row (adopt (rec 0 0 0 2 ∷ rec 1 0 1 4 ∷ rec 2 1 2 6 ∷ rec 3 1 4 7 ∷ rec 4 0 6 9 ∷ [])) (21 ∷ 4 ∷ 0 ∷ [])
     ∷ limitTable
 
 -- margins on plan A: late by one, just in time and early; equal ones, and tasks without deadline; none (document 02, 2)
