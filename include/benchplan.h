@@ -16,26 +16,26 @@
 extern "C" {
 #endif
 
-#define BENCHPLAN_VERSION 500      /* 0.5.0: ten thousands, hundreds, ones. Structs may differ from one version to the next: compile anew. */
+#define BENCHPLAN_VERSION 600      /* 0.6.0: ten thousands, hundreds, ones. Structs may differ from one version to the next: compile anew. */
 #define BENCH_TASKS 64
 #define BENCH_TYPES 8
 #define BENCH_UNITS 8              /* of each type */
-#define BENCH_LONGEST_TIME 1000000 /* in ticks; the latest deadline, too */
-#define BENCH_LAST_INSTANT 64000000
+#define BENCH_LONGEST_TIME 1000000 /* in ticks; the latest deadline and the latest not-before instant, too */
+#define BENCH_LAST_INSTANT 65000000
 #define BENCH_TEXT_MOST 32768      /* bytes of a plan text */
-#define BENCH_TIMETABLE_MOST 1448  /* bytes of a timetable */
-#define BENCH_ANSWER_MOST 1448     /* bytes of an answer of bench_answer */
+#define BENCH_TIMETABLE_MOST 1456  /* bytes of a timetable */
+#define BENCH_ANSWER_MOST 1456     /* bytes of an answer of bench_answer */
 #define BENCH_STACK_MOST 65536     /* bytes of stack, enough for any call with its arguments and its answer: measured, not proved */
 
 enum bench_refusal {
     BENCH_ACCEPTED = 0,
     BENCH_TEXT_TOO_LONG = 1,  /* the text has more than 32,768 bytes */
-    BENCH_NO_LINE_FORM = 2,   /* not one of the five line forms */
+    BENCH_NO_LINE_FORM = 2,   /* not one of the six line forms */
     BENCH_OUT_OF_RANGE = 3,   /* a number out of range */
     BENCH_CONTRARY = 4,       /* worst below best, or an arrow from a task to itself */
     BENCH_KIND_TOO_LATE = 5,  /* a kind of line after a later kind */
-    BENCH_NOT_KNOWN = 6,      /* a U type that is not the next, a T type without U line, an A, D or C task without T line */
-    BENCH_REPEATED = 7,       /* a pair of task and type, an arrow, the D line of a task or its C line for the second time */
+    BENCH_NOT_KNOWN = 6,      /* a U type that is not the next, a T type without U line, an A, D, N or C task without T line */
+    BENCH_REPEATED = 7,       /* a pair of task and type, an arrow, or the D, N or C line of a task for the second time */
     BENCH_PLAN_RULE = 8,      /* the plan breaks a rule */
     BENCH_NOT_EACH_ONCE = 9,  /* the order does not name every task once */
     BENCH_NOT_USABLE = 10,    /* a task is to run on a type that it cannot use, or that the plan does not have */
@@ -50,12 +50,12 @@ enum bench_refusal {
     BENCH_TOO_SHORT = 19,     /* a lent buffer is too short */
     BENCH_LIST_TASKS = 20,    /* a schedule does not have one record for each task */
     BENCH_LIST_TIMES = 21,    /* a record has a type that its task cannot use or that the plan does not have, or its finish is not its start plus the worst time */
-    BENCH_LIST_STARTS = 22    /* a record starts before a task that it waits for has finished, or when all units of its type are held */
+    BENCH_LIST_STARTS = 22    /* a record starts before a task that it waits for has finished, before its not-before instant, or when all units of its type are held */
 };
 
 /* Opaque: hand them on as they came. */
-typedef struct { uint64_t words[614]; } bench_plan;
-typedef struct { uint64_t words[810]; } bench_state;
+typedef struct { uint64_t words[646]; } bench_plan;
+typedef struct { uint64_t words[842]; } bench_state;
 
 /* The order: the task and the type of each C line, with zeros after the last. */
 typedef struct { size_t length, task[BENCH_TASKS], unit_type[BENCH_TASKS]; } bench_constraint;
@@ -73,9 +73,9 @@ typedef struct { uint32_t number; size_t place; uint64_t started; bench_state st
 typedef struct { uint32_t number; size_t place; bench_constraint constraint; } bench_adoption;
 
 #define BENCH_SIZE(type, bytes) typedef char type##_is_##bytes##_bytes[sizeof(type) == bytes ? 1 : -1]
-BENCH_SIZE(bench_plan, 4912); BENCH_SIZE(bench_constraint, 1032); BENCH_SIZE(bench_state, 6480);
-BENCH_SIZE(bench_text, 5960); BENCH_SIZE(bench_verdict, 16); BENCH_SIZE(bench_run, 536);
-BENCH_SIZE(bench_written, 24); BENCH_SIZE(bench_slacks, 552); BENCH_SIZE(bench_ticked, 6504);
+BENCH_SIZE(bench_plan, 5168); BENCH_SIZE(bench_constraint, 1032); BENCH_SIZE(bench_state, 6736);
+BENCH_SIZE(bench_text, 6216); BENCH_SIZE(bench_verdict, 16); BENCH_SIZE(bench_run, 536);
+BENCH_SIZE(bench_written, 24); BENCH_SIZE(bench_slacks, 552); BENCH_SIZE(bench_ticked, 6760);
 BENCH_SIZE(bench_record, 16); BENCH_SIZE(bench_adoption, 1048);
 
 /* The plan of a text, and its check: 1 to 7, 8 to 11. Every other call that takes a plan checks it first. */
@@ -96,7 +96,8 @@ bench_slacks bench_margins(bench_plan plan, bench_constraint constraint);
    lower number. The check takes it, and its bound is at most the greatest finish of the records. */
 bench_adoption bench_adopt(bench_plan plan, const bench_record *records, size_t records_length);
 
-/* A live run: the state and the tasks to begin at instant 0, then one instant on, with the reported tasks finished (12, 13, 14, 16). */
+/* A live run: the state and the tasks to begin at instant 0, then one instant on, with the reported tasks finished (12, 13, 14, 16). Nothing may
+   run while tasks wait for their not-before instants: tick on, with an empty report. */
 bench_ticked bench_start(bench_plan plan, bench_constraint constraint);
 bench_ticked bench_tick(bench_state state, uint64_t report);
 

@@ -19,7 +19,8 @@ LONGEST_LINE = 400
 SHOWN = re.compile(rb"(?:[ -~\n]|\xe2\x87\xa5|\xe2\x86\x92)*")
 
 # Bytes that are likelier than others: those of a plan text, and those that editors and spreadsheets leave behind.
-LIKELY = [b"\t", b"\n", b" ", b"0", b"1", b"9", b"-", b".", b",", b"#", b"\r", b"\0", b"\xff\xfe", b"\xef\xbb\xbf", b"\xc2\xa0", b"T", b"a"]
+LIKELY = [b"\t", b"\n", b" ", b"0", b"1", b"9", b"-", b".", b",", b"#", b"\r", b"\0", b"\xff\xfe", b"\xef\xbb\xbf", b"\xc2\xa0"]
+LIKELY += [b"T", b"a", b"N", b"n"]
 
 
 def some_bytes(rng):
@@ -84,6 +85,15 @@ def delete_line(lines, a, _):
     del lines[a]
 
 
+def add_release(rng, text):
+    """An N line more, where N lines end or anywhere, of any task, often one that has no T line or has an N line already."""
+    lines = text.splitlines(keepends=True)
+    last = next((k for k, line in enumerate(lines) if line.startswith(b"C")), len(lines))
+    numbers = rng.choice([2, 14, rng.randint(0, 70)]), rng.choice([0, 1, 1_000_000, 1_000_001, rng.randint(0, 100)])
+    lines.insert(rng.choice([last, last, rng.randint(0, len(lines))]), b"N\t%d\t%d\n" % numbers)
+    return b"".join(lines)
+
+
 def repeat(rng, text):
     """The whole text several times, or its end very often."""
     at = rng.randint(0, len(text))
@@ -91,7 +101,7 @@ def repeat(rng, text):
 
 
 LINES = [in_lines(change) for change in (swap_lines, swap_neighbours, swap_neighbours, copy_line, delete_line)]
-DAMAGES = [flip, insert, overwrite, cut_out, cut_off, change_number, change_number, *LINES, *LINES]
+DAMAGES = [flip, insert, overwrite, cut_out, cut_off, change_number, change_number, add_release, add_release, *LINES, *LINES]
 
 
 def random_text(rng):
@@ -103,10 +113,13 @@ def random_text(rng):
 
 
 def fixed():
-    """A text that is taken, and texts at the limits."""
+    """A text that is taken, texts at the limits, and texts with a line of each letter that has too few or too many numbers, or a small letter."""
     yield from (PLAN, b"", b"\n", b"\t", b"U", b"\n" * MOST_BYTES, b"\n" * (MOST_BYTES + 1), b"U\t0\t1\n" * 400_000)
     yield b"U" + b"\t1" * (MOST_BYTES // 2 - 1) + b"\n"
     yield b"U\t0\t1\nT\t63\t0\t1\t1\n"
+    for letter in facts.KINDS.encode():
+        yield from (b"U\t0\t1\n%c%s\n" % (letter, b"\t0" * count) for count in (1, 3, 5))
+        yield b"U\t0\t1\n%c\t0\t0\n" % (letter | 32)
     for letters in b".\xff", b"\xff\xff", b"99", b"-x", b"\x01\x7f", b"0 ", b"\t\t":
         yield b"U\t0\t1\nT\t0\t0\t1\t" + letters[:1] + letters[1:] * 100 + b"\n"
 
@@ -126,7 +139,7 @@ def check_explanation(text, number, place):
 
 
 def others_unformed(text, number):
-    """How many lines besides the refused one have none of the five forms, if any has."""
+    """How many lines besides the refused one have none of the six forms, if any has."""
     lines = text.removesuffix(b"\n").count(b"\n") + 1
     others = lines - len(facts.records_of(text)) - 1
     return [f"  lines that are none of the forms, besides this one: {others}"] if number == 2 and others > 0 else []
@@ -150,7 +163,7 @@ def check_lines(text, number, place, lines):
 
 
 def check(text, is_examined):
-    """Gives the number of the refusal."""
+    """Gives the number of the refusal, and whether an N line is refused."""
     number, place = refusal(text)
     check_explanation(text, number, place)
     for word in "why", "picture":
@@ -158,19 +171,22 @@ def check(text, is_examined):
         hold((printed == b"") == (number != 0), f"benchplan gives {number}, and `show {word}` prints {len(printed)} bytes")
     for words in OTHER_WORDS if is_examined else []:
         hold(run("show", *words, text=text) == b"", f"show {words} prints something")
-    return number
+    return number, 2 <= number <= 7 and text.split(b"\n")[place - 1].startswith(b"N")
 
 
 def main(seed, count):
     rng = random.Random(seed)
-    numbers = Counter()
+    numbers, at_releases = Counter(), Counter()
     texts = chain(fixed(), (random_text(rng) for _ in range(count)))
     for k, text in enumerate(texts):
         try:
-            numbers[check(text, k % EXAMINED_FOR_OTHER_WORDS == 0)] += 1
+            number, is_release = check(text, k % EXAMINED_FOR_OTHER_WORDS == 0)
         except Wrong as wrong:
             stop("damaged", f"seed {seed}, text {k}", text, wrong)
+        numbers[number] += 1
+        at_releases[number] += is_release
     missing = [str(number) for number in range(12) if not numbers[number]]
+    missing += [f"{number} at an N line" for number in (2, 3, 5, 6, 7) if not at_releases[number]]
     if count >= 2000 and missing:
         fail("damaged", f"seed {seed}: never met: {', '.join(missing)}")
     print(f"shown: {numbers.total() - numbers[0]} damaged texts explained, and {numbers[0]} that are taken not")

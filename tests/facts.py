@@ -4,8 +4,8 @@ import re
 
 from programs import hold, numbered, opening, quoted, refusal
 
-KINDS = "UTADC"
-IN_ORDER = "the order is U, T, A, D, C"
+KINDS = "UTADNC"
+IN_ORDER = "the order is U, T, A, D, N, C"
 TASK = 0, 63, ": tasks are numbered from 0"
 TYPE = 0, 7, ": types are numbered from 0"
 TIME = 1, 1_000_000, ": take a longer tick"
@@ -16,15 +16,16 @@ NUMBERS = {
     "T": [("task", *TASK), ("type", *TYPE), ("best time", *TIME), ("worst time", *TIME)],
     "A": [("task", *TASK), ("task", *TASK)],
     "D": [("task", *TASK), ("deadline", *TIME)],
+    "N": [("task", *TASK), ("not-before instant", 0, *TIME[1:])],
     "C": [("task", *TASK), ("type", *TYPE)],
 }
 
 # How many numbers of a line, from the first, may not come twice together.
-ALIKE = {"T": 2, "A": 2, "D": 1, "C": 1}
+ALIKE = {"T": 2, "A": 2, "D": 1, "N": 1, "C": 1}
 
 
 def records_of(text):
-    """By place, the letter and the numbers of each line that has one of the five forms."""
+    """By place, the letter and the numbers of each line that has one of the six forms."""
     records = {}
     for place, line in enumerate(text.decode("latin-1").split("\n"), 1):
         letter, *fields = line.split("\t")
@@ -93,8 +94,9 @@ def repeated(records, place):
     letter, *numbers = records[place]
     a, b = numbers[:2]
     earlier = first(records, *records[place][: ALIKE[letter] + 1])
-    has = {"T": f"task {a} already has times on type {b}", "A": "this arrow is already there", "D": f"task {a} already has a deadline"}
-    told = [f"{has.get(letter, f'task {a} already stands in the order')}: see line {earlier}"]
+    already = {"T": f"has times on type {b}", "D": "has a deadline", "N": "has an N line", "C": "stands in the order"}
+    has = "this arrow is already there" if letter == "A" else f"task {a} already {already[letter]}"
+    told = [f"{has}: see line {earlier}"]
     without = {t for t in range(64) if first(records, "T", t) and not first(records, "C", t)}
     if letter == "C" and without:
         told.append(f"  no C line yet: {numbered('task', without)}")

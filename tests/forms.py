@@ -3,7 +3,15 @@ import re
 
 from programs import MOST_OF_PART, hold, opening, shown
 
-WANTED = {b"U": 2, b"T": 4, b"A": 2, b"D": 2, b"C": 2}
+# By the letter of a line, its article and the names of its numbers.
+FORMS = {
+    b"U": ("a", ["type", "count"]),
+    b"T": ("a", ["task", "type", "best", "worst"]),
+    b"A": ("an", ["from", "to"]),
+    b"D": ("a", ["task", "instant"]),
+    b"N": ("an", ["task", "instant"]),
+    b"C": ("a", ["task", "type"]),
+}
 FIELD = re.compile(r'number (\d+) of the line, "([^"]*)", ')
 SIGN = re.compile(r'the line has a character that is not plain ASCII, "((?:<[89a-f][0-9a-f]>)+)", ')
 
@@ -35,11 +43,12 @@ TRUE_OF = {
     "the line begins with a space": lambda line: line.startswith(b" "),
     "the line ends in a space": lambda line: line.endswith(b" "),
     "the line has spaces": lambda line: b" " in line,
-    "the letter is a small one": lambda line: re.match(rb"[utadc]\t", line),
+    "the letter is a small one; write U, T, A, D, N or C": lambda line: re.match(rb"[utadnc]\t", line),
     "commas or semicolons": lambda line: line[1:2] in (b",", b";"),
-    "a line begins with one": lambda line: not re.match(rb"[UTADC]\t", line),
+    "a line begins with one letter, U, T, A, D, N or C, and a tab; there are no headings": lambda line: re.match(rb"[A-z]{2}", line),
+    "a line begins with one of the letters U, T, A, D, N and C, and a tab": lambda line: not re.match(rb"[UTADNC]\t", line),
     "the line ends in a tab": lambda line: line.endswith(b"\t"),
-    "the last line does not end": lambda line: len(fields(line)) == WANTED[line[:1]],
+    "the last line does not end": lambda line: len(fields(line)) == len(FORMS[line[:1]][1]),
 }
 
 
@@ -54,9 +63,10 @@ def check_counts(line, sentence):
     """Two tabs, and too few or too many numbers; whether the sentence is of these."""
     if found := re.match(r"two tabs stand before number (\d+);", sentence):
         hold(fields(line)[int(found[1]) - 1 : int(found[1])] == [b""], f"number {found[1]} is there: {line}")
-    elif found := re.match(r"an? ([UTADC]) line has (\d) numbers: .*; this one has (\d+)$", sentence):
-        is_true = (found[1].encode(), int(found[2]), int(found[3])) == (line[:1], WANTED[line[:1]], len(fields(line)))
-        hold(is_true and found[2] != found[3], f"the line is {line}, and the sentence is: {sentence}")
+    elif found := re.fullmatch(r"an? . line has \d numbers: .*; this one has \d+", sentence):
+        article, names = FORMS[line[:1]]
+        due = f"{article} {line[:1].decode()} line has {len(names)} numbers: {', '.join(names)}; this one has {len(fields(line))}"
+        hold(sentence == due and len(names) != len(fields(line)), f"the line is {line}, and the sentence is: {sentence}")
     return bool(found)
 
 

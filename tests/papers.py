@@ -114,7 +114,8 @@ def check_guide():
     for plan in ("deadlines.txt", "fluorescence.txt"):
         shown = output(["margins"], (TOP / "examples" / plan).read_bytes()).replace("\t", "⇥")
         must(shown in guide, f"guide: the margins of {plan}")
-    must(output(["show", "why"], (TOP / "examples/two-cameras.txt").read_bytes()) in guide, "guide: why")
+    for plan in ("two-cameras.txt", "warm-lamp.txt"):
+        must(output(["show", "why"], (TOP / "examples" / plan).read_bytes()) in guide, f"guide: why of {plan}")
     check_schedule(guide)
     told = output(["show", "explain"], (CRATES / "show/stdin").read_bytes())
     must("".join(f"benchplan: {line}\n" for line in told.splitlines()) in guide, "guide: the sentence of a refusal")

@@ -14,11 +14,15 @@ LEFT, RIGHT, SHEET = 1150, 11150, 11750
 MANY_LANES, MANY_ARROWS, MOST_LABELS = 16, 200, 17
 
 # How wide a digit is at most, by the class of a number.
-DIGIT = {"at": 70, "inside": 70, "inside small": 58, "below": 64, "flagged": 64}
-GAP = {"at": 20, "below": 10, "flagged": 10}
+DIGIT = {"at": 70, "inside": 70, "inside small": 58, "below": 64, "flagged": 64, "released": 64}
+GAP = {"at": 20, "below": 10, "flagged": 10, "released": 10}
+
+# How high a digit is, and half a line's width, at most.
+DIGIT_HEIGHT, HALF_LINE = 80, 8
 
 # What a long test must have met.
 CASES = ["met", "late", "beyond", "narrow", "thin", "many lanes", "many arrows", "down", "up", "arc", "no length"]
+CASES += ["not before its start", "not before an earlier instant", "not before 0", "not before, and a deadline", "not before, and a number below"]
 
 
 class Drawn:
@@ -64,6 +68,8 @@ class Drawn:
         title = f"task {task}, {self.lane_name(self.lane(task))}, {self.starts[task]} to {self.finishes[task]}"
         if waits := self.plan.waits[task]:
             title += f"; waits for {listed(waits)}"
+        if instant := self.plan.release(task):
+            title += f"; not before {instant}"
         if task in self.plan.deadlines:
             title += f"; deadline {self.plan.deadlines[task]}"
         return title + (f", late by {self.late_by(task)}" if self.late_by(task) else "")
@@ -180,7 +186,7 @@ def check_number(sheet, drawn, group, task, bar):
 
 def check_deadline(sheet, drawn, group, task, bar):
     """The marks of a deadline, and of lateness; none of a task that has none. Gives what it is."""
-    deadline, marks = drawn.plan.deadlines.get(task), list(group.iter("path"))
+    deadline, marks = drawn.plan.deadlines.get(task), [path for path in group.iter("path") if path.get("class") != "release"]
     late, over = sheet.all("rect", "late", group), sheet.all("line", "over", group)
     is_late = drawn.late_by(task) > 0
     same(f"the marks of task {task}", [len(marks), len(late), len(over)], [deadline is not None, is_late, is_late])
@@ -200,6 +206,27 @@ def check_deadline(sheet, drawn, group, task, bar):
     return "late" if is_late else "beyond" if is_beyond else "met"
 
 
+def first_point(path):
+    return tuple(map(int, re.findall(r"\d+", path.get("d"))[:2]))
+
+
+def check_release(sheet, drawn, group, task, bar):
+    """The mark of a not-before instant above 0, below the bar in the task's lane, with a line to the number below; none of 0."""
+    instant, marks, texts = drawn.plan.release(task), sheet.all("path", "release", group), sheet.all("text", "released", group)
+    same(f"the numbers at the not-before instant of task {task}", [text.text for text in texts], [str(task)] * (instant > 0))
+    same(f"the marks of the not-before instant of task {task}", len(marks), len(texts))
+    if not instant:
+        return
+    x, top = drawn.x(instant), first_point(marks[0])[1]
+    same(f"the mark of the not-before instant of task {task}", marks[0].get("d"), f"M{x + 40} {top}h-40v70h40")
+    at, bottom = numbers(texts[0], "x", "y")
+    is_below = bar[1] < top and top + 70 < bottom - DIGIT_HEIGHT
+    hold(is_below, f"the not-before instant of task {task} is not below its bar, or the number not below that")
+    same(f"the lane of the not-before instant of task {task}", sheet.lane_at(top, bottom), drawn.lane(task))
+    ends = [numbers(line, "x1", "x2") for line in sheet.all("line", "lead", group) if numbers(line, "y1")[0] > top]
+    same(f"the line from the not-before instant of task {task} to its number", ends, [[x, at]])
+
+
 def check_tasks(sheet, drawn, seen):
     """A group for each task, in the order; gives the bars by task."""
     same_lines([group.find("title").text for group in sheet.groups], [drawn.title(task) for task in drawn.plan.order])
@@ -209,6 +236,7 @@ def check_tasks(sheet, drawn, seen):
         seen["narrow"] += check_number(sheet, drawn, group, task, bars[task]) == "below"
         seen["thin"] += drawn.right(task) == drawn.left(task)
         seen[check_deadline(sheet, drawn, group, task, bars[task])] += 1
+        check_release(sheet, drawn, group, task, bars[task])
         uses = [use.get("href") for use in group.iter("use")]
         same(f"the arrows to task {task} under the pointer", uses, [f"#to{task}"] if drawn.plan.waits[task] else [])
     same("the bars", len(sheet.all("rect", "bar")), len(bars) + 1)  # one is that of the key
@@ -219,14 +247,22 @@ def check_tasks(sheet, drawn, seen):
 
 
 def check_strokes(sheet, drawn, bars):
-    """A line across the lane at each deadline on the axis."""
-    due = Counter()
+    """A line across the lane at each deadline on the axis, and one at each not-before instant, down to its mark."""
+    due, opened = Counter(), Counter()
     for task, deadline in drawn.plan.deadlines.items():
         top, bottom = bars[task]
         if deadline <= drawn.end:
             due[drawn.x(deadline), top - 60, drawn.x(deadline), bottom + 40] += 1
-    found = Counter(tuple(numbers(line, "x1", "y1", "x2", "y2")) for line in sheet.all("line", "due"))
-    same("the lines of deadlines", found, due)
+    for group, task in zip(sheet.groups, drawn.plan.order):
+        for mark in sheet.all("path", "release", group):
+            x = drawn.x(drawn.plan.release(task))
+            opened[x, bars[task][0], x, first_point(mark)[1]] += 1
+    elements = list(sheet.root.iter())
+    for name, wanted in ("due", due), ("open", opened):
+        lines = sheet.all("line", name)
+        same(f"the lines of class {name}", Counter(tuple(numbers(line, "x1", "y1", "x2", "y2")) for line in lines), wanted)
+        is_under = all(elements.index(line) < elements.index(sheet.groups[0]) for line in lines)
+        hold(is_under, f"a line of class {name} is drawn over bars")
 
 
 def check_overlaps(sheet, drawn):
@@ -245,6 +281,49 @@ def check_overlaps(sheet, drawn):
         for (_, right, first), (left, _, second) in zip(row, row[1:]):
             hold(right + GAP[name] <= left, f"the numbers {first} and {second} of class {name} overlap")
         hold(row[0][0] >= LEFT - 250 and row[-1][1] <= SHEET, f"a row of numbers of class {name} leaves its room")
+
+
+def check_number_orders(sheet, drawn):
+    """The numbers at deadlines and at not-before instants stand in each lane in the order of these; of two alike, the lower task first."""
+    for name, instants in ("flagged", drawn.plan.deadlines), ("released", drawn.plan.releases):
+        rows = {}
+        for text in sheet.all("text", name):
+            x, y = numbers(text, "x", "y")
+            rows.setdefault(y, []).append((x, int(text.text)))
+        for row in rows.values():
+            tasks = [task for _, task in sorted(row)]
+            same(f"the order of numbers of class {name}", tasks, sorted(tasks, key=lambda task: (instants[task], task)))
+
+
+def box_of(element):
+    """From where to where an element with a class lies, from the left to the right and from the top to the bottom."""
+    name = element.get("class")
+    if element.tag == "rect":
+        x, y, width, height = numbers(element, "x", "y", "width", "height")
+        return x, x + width, y, y + height
+    if element.tag == "line":
+        x1, x2, y1, y2 = numbers(element, "x1", "x2", "y1", "y2")
+        return min(x1, x2) - HALF_LINE, max(x1, x2) + HALF_LINE, y1, y2
+    if element.tag == "text":
+        x, y = numbers(element, "x", "y")
+        half = len(element.text) * DIGIT[name] // 2
+        return x - half, x + half, y - DIGIT_HEIGHT, y
+    x, y = first_point(element)
+    if name == "release":
+        return x - 40 - HALF_LINE, x + HALF_LINE, y - HALF_LINE, y + 70 + HALF_LINE
+    return (x - 75, x, y - 40, y + 40) if "v80z" in element.get("d") else (x - 40, x + 40, y - 75, y)
+
+
+def check_releases_apart(sheet):
+    """The marks of not-before instants and their numbers lie on no bar, on no other number, and on no mark of a deadline."""
+    marks, texts = sheet.all("path", "release"), sheet.all("text", "released")
+    kinds = [("rect", "bar"), ("rect", "late"), ("line", "due"), ("text", "below"), ("text", "flagged"), ("path", "flag"), ("path", "flag met")]
+    boxes = [box_of(e) for tag, name in kinds for e in sheet.all(tag, name)]
+    for own, others in (marks, boxes + list(map(box_of, texts))), (texts, boxes):
+        for e in own:
+            left, right, top, bottom = box_of(e)
+            on = [box for box in others if left < box[1] and box[0] < right and top < box[3] and box[2] < bottom]
+            hold(not on, f"{e.tag} {e.attrib} lies on what lies at {on[:1]}")
 
 
 def arrow(drawn, bars, before, task):
@@ -283,8 +362,20 @@ def check_key(sheet, drawn):
         "missed": late,
         "after the deadline": late,
         "deadline beyond the axis": any(deadline > drawn.end for deadline in deadlines.values()),
+        "not-before instant of that task": any(drawn.plan.releases.values()),
     }
     same("the key", [text.text for text in sheet.all("text", "key")], [words for words, is_there in due.items() if is_there])
+    marks = sum(instant > 0 for instant in drawn.plan.releases.values())
+    same("the marks of not-before instants, with that of the key", len(sheet.all("path", "release")), marks + (marks > 0))
+
+
+def check_style(sheet):
+    """Every class that elements have is one whose look is said, and only a picture with not-before instants speaks of them."""
+    said = set(re.findall(r"\.([a-z]+)", re.sub(r"\{[^}]*\}", "", sheet.root.find("style").text)))
+    used = {name for e in sheet.root.iter() for name in e.get("class", "").split()}
+    hold(used - {"key"} <= said, f"of these classes no look is said: {used - said}")
+    own = {"open", "release", "released"}
+    same("the classes of not-before instants", said & own, used & own)
 
 
 def check_sheet(sheet):
@@ -296,25 +387,48 @@ def check_sheet(sheet):
         xs = [int(e.get(name, 0)) for name in ("x", "x1", "x2")] + [int(e.get("x", 0)) + int(e.get("width", 0))]
         ys = [int(e.get(name, 0)) for name in ("y", "y1", "y2")] + [int(e.get("y", 0)) + int(e.get("height", 0))]
         if e.tag == "path":
-            way = points(e) if e.get("class") is None else [tuple(map(int, re.findall(r"\d+", e.get("d"))[:2]))]
+            way = points(e) if e.get("class") is None else [first_point(e)]
             xs, ys = [x for x, _ in way], [y for _, y in way]
         hold(0 <= min(xs) and max(xs) <= width and 0 <= min(ys) and max(ys) <= height, f"off the sheet: {e.tag} {e.attrib}")
 
 
+def check_zeros(plan, svg):
+    """N lines that all say 0 change no byte."""
+    if plan.releases and not any(plan.releases.values()):
+        without = run("show", "picture", text=text_of(replace(plan, releases={})))
+        hold(svg == without, "the picture is another one without the N lines, which all say 0")
+
+
+def note_releases(drawn, sheet, seen):
+    numbered = {drawn.lane(task) for group, task in zip(sheet.groups, drawn.plan.order) if sheet.all("text", "below", group)}
+    for task, instant in drawn.plan.releases.items():
+        seen["not before 0"] += instant == 0
+        seen["not before its start"] += 0 < instant == drawn.starts[task]
+        seen["not before an earlier instant"] += 0 < instant < drawn.starts[task]
+        seen["not before, and a deadline"] += instant > 0 and task in drawn.plan.deadlines
+        seen["not before, and a number below"] += instant > 0 and drawn.lane(task) in numbered
+
+
 def check(text, seen):
     drawn = Drawn(plan_of(text))
-    sheet = Sheet(run("show", "picture", text=text))
+    svg = run("show", "picture", text=text)
+    sheet = Sheet(svg)
     seen["many lanes"] += len(drawn.lanes) > MANY_LANES
     check_ids(sheet)
     check_lanes(sheet, drawn)
     check_axis(sheet, drawn)
     check_response(sheet, drawn)
     bars = check_tasks(sheet, drawn, seen)
+    note_releases(drawn, sheet, seen)
     check_strokes(sheet, drawn, bars)
     check_overlaps(sheet, drawn)
+    check_number_orders(sheet, drawn)
+    check_releases_apart(sheet)
     check_arrows(sheet, drawn, bars, seen)
     check_key(sheet, drawn)
+    check_style(sheet)
     check_sheet(sheet)
+    check_zeros(drawn.plan, svg)
 
 
 def varied(rng):
@@ -338,6 +452,10 @@ def fixed():
     yield "64 tasks on one unit", text_of(row_of_tasks(MOST_TASKS, 1, LONGEST_TIME))
     row = row_of_tasks(MOST_TASKS, 1, 1)
     yield "64 tasks on one unit, all with one deadline", text_of(replace(row, deadlines=dict.fromkeys(row.order, 64)))
+    every = dict.fromkeys(row.order, 64)
+    yield "64 tasks on one unit, all with one not-before instant and one deadline", text_of(replace(row, deadlines=every, releases=every))
+    yield "64 lanes, all with not-before instants", text_of(replace(lanes, releases={task: 1 + task for task in lanes.order}))
+    yield "N lines that say 0", text_of(replace(row, releases=dict.fromkeys(row.order, 0)))
     yield "one task", text_of(row_of_tasks(1, 1, 1))
     yield "one task that is late", text_of(replace(row_of_tasks(1, 1, LONGEST_TIME), deadlines={0: 1}))
     yield "every arrow", text_of(replace(full, waits={task: set(range(task)) for task in full.order}))

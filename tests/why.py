@@ -2,12 +2,15 @@
 import random
 import sys
 from collections import Counter
+from dataclasses import replace
 
-from plans import MOST_TASKS, plan_of, random_plan, row_of_tasks, text_of, worst_run
+from plans import LATEST_RELEASE, MOST_TASKS, plan_of, random_plan, row_of_tasks, text_of, worst_run
 from programs import TOP, Wrong, fail, hold, numbered, run, same_lines, stop
 
 # What a long test must have met.
 CASES = ["nothing", "task", "tasks", "the unit", "both units", "all units", "several freed", "order", "order alone", "link by order", "several last"]
+CASES += ["N line alone", "N line and task", "N line and unit", "N line and order", "N line of 0", "N line that has come", "chain from an N line"]
+CASES += ["chain from an N line, first link idle", "chain from an N line, past the order", "link past an N line"]
 
 
 class Look:
@@ -32,6 +35,10 @@ class Look:
         taken = {u for u in users if self.starts[u] <= start - 1 < self.finishes[u]}
         return {u for u in taken if self.finishes[u] <= start} if len(taken) == self.plan.units[kind] else set()
 
+    def released(self, task):
+        """Whether its not-before instant had not come one instant before."""
+        return self.plan.release(task) > self.starts[task] - 1
+
     def behind(self, task):
         """The task just before it in the order, if that had not started one instant before."""
         k = self.plan.order.index(task)
@@ -39,7 +46,7 @@ class Look:
         return {u for u in before if self.starts[u] > self.starts[task] - 1}
 
     def reasons(self, task):
-        awaited, freeing, behind = self.awaited(task), self.freeing(task), self.behind(task)
+        awaited, freeing, released, behind = self.awaited(task), self.freeing(task), self.released(task), self.behind(task)
         kind = self.plan.chosen[task]
         units = self.plan.units[kind]
         if self.starts[task] == 0:
@@ -53,10 +60,22 @@ class Look:
         elif freeing:
             every = "both" if units == 2 else f"all {units}"
             reasons.append(f"{every} units of type {kind}, taken until {numbered('task', freeing)} finished")
+        if released:
+            reasons.append(f"its N line: not before {self.plan.release(task)}")
         if behind:
             reasons.append(f"the order: {numbered('task', behind)}, just before it, starts only then")
         self.note(awaited, freeing, behind, units)
+        self.note_release(task, awaited, freeing, released, behind)
         return "; ".join(reasons)
+
+    def note_release(self, task, awaited, freeing, released, behind):
+        self.seen["order alone"] += bool(behind) and not (awaited or freeing or released)
+        self.seen["N line alone"] += released and not (awaited or freeing or behind)
+        self.seen["N line and task"] += released and bool(awaited)
+        self.seen["N line and unit"] += released and bool(freeing)
+        self.seen["N line and order"] += released and bool(behind)
+        self.seen["N line of 0"] += self.plan.releases.get(task) == 0
+        self.seen["N line that has come"] += 0 < self.plan.release(task) < self.starts[task]
 
     def note(self, awaited, freeing, behind, units):
         self.seen["task"] += len(awaited) == 1
@@ -66,19 +85,36 @@ class Look:
         self.seen["all units"] += units > 2 and len(freeing) > 0
         self.seen["several freed"] += len(freeing) > 1
         self.seen["order"] += len(behind) > 0
-        self.seen["order alone"] += bool(behind) and not awaited and not freeing
 
     def chain(self):
-        """From the first task in the order that finishes last back to a start at 0: task, what it adds to R, how it hangs on the one before."""
+        """From the first task in the order that finishes last back to a start at 0, or to a not-before instant that held a task: of each link
+        its task, start, finish, what it adds to R, and how it hangs on the one before."""
         task = next(t for t in self.plan.order if self.finishes[t] == self.response)
         adds, links = self.finishes[task] - self.starts[task], []
-        while self.starts[task] > 0:
+        while not self.begins(task):
             cause, words, is_idle = self.cause(task)
-            links.insert(0, (task, adds, words))
+            links.insert(0, (task, self.starts[task], self.finishes[task], adds, words))
             self.seen["link by order"] += is_idle
+            self.seen["link past an N line"] += self.released(task)
             adds = 0 if is_idle else self.finishes[cause] - self.starts[cause]
             task = cause
-        return [(task, adds, "starts at once"), *links]
+        return [*self.first_links(task, adds), *links]
+
+    def begins(self, task):
+        """Whether a chain begins with a task: it starts at 0, or its not-before instant and no finish of another task held it."""
+        is_held = self.awaited(task) or self.freeing(task)
+        return self.starts[task] == 0 or self.released(task) and not is_held
+
+    def first_links(self, task, adds):
+        """The link of the task with which the chain begins, and before it the time until its not-before instant, if that held it."""
+        start, finish = self.starts[task], self.finishes[task]
+        if start == 0:
+            return [(task, start, finish, adds, "starts at once")]
+        self.seen["chain from an N line"] += 1
+        self.seen["chain from an N line, first link idle"] += adds == 0
+        self.seen["chain from an N line, past the order"] += bool(self.behind(task))
+        until = "N", 0, start, start, f"task {task} may not start before {start}"
+        return [until, (task, start, finish, adds, "starts at its not-before instant")]
 
     def cause(self, task):
         """The task before it in the chain, the words for that, and whether the two only start together."""
@@ -110,18 +146,18 @@ class Look:
         self.seen["several last"] += len(last) > 1
         yield f"R is {self.response}, the finish of {numbered('task', last)}. The chain of tasks that makes {makes}:"
         yield f"task  {'start':>{start}}  {'finish':>{finish}}  {'adds':>{add}}"
-        for t, adds, words in self.chain():
-            yield f"{t:>4}  {self.starts[t]:>{start}}  {self.finishes[t]:>{finish}}  {adds:>{add}}  {words}"
+        for t, begin, end, adds, words in self.chain():
+            yield f"{t:>4}  {begin:>{start}}  {end:>{finish}}  {adds:>{add}}  {words}"
         yield f"   R  {'':>{start}}  {'':>{finish}}  {self.response:>{add}}"
 
 
 def chain_holds(printed, look):
     """By the printed numbers alone: the chain starts at 0, each link begins where the one before ends or begins, and the sum is R."""
-    rows = [list(map(int, line.split()[:4])) for line in printed[len(look.plan.order) + 4 : -1]]
-    hold(rows[0][1] == 0 and rows[-1][2] == look.response, "the chain does not lead from 0 to R")
-    hold(sum(row[3] for row in rows) == look.response, "the sum of what the links add is not R")
-    for (_, start, _, adds), (task, later, *_) in zip(rows, rows[1:]):
-        hold(start + adds == later, f"task {task} of the chain does not start where the link before it leads")
+    rows = [list(map(int, line.split()[1:4])) for line in printed[len(look.plan.order) + 4 : -1]]
+    hold(rows[0][0] == 0 and rows[-1][1] == look.response, "the chain does not lead from 0 to R")
+    hold(sum(adds for *_, adds in rows) == look.response, "the sum of what the links add is not R")
+    for k, ((start, _, adds), (later, *_)) in enumerate(zip(rows, rows[1:]), 2):
+        hold(start + adds == later, f"link {k} of the chain does not start where the link before it leads")
 
 
 def check(text, seen):
@@ -139,6 +175,12 @@ def fixed():
     yield "64 tasks on 8 units", text_of(row_of_tasks(MOST_TASKS, 8, 1_000_000)), 8_000_000
     yield "one task", text_of(row_of_tasks(1, 1, 1)), 1
     yield "one task on 8 units", text_of(row_of_tasks(1, 8, 1_000_000)), 1_000_000
+    yield "one task, not before the latest instant", text_of(replace(row_of_tasks(1, 1, 1), releases={0: LATEST_RELEASE})), 1_000_001
+    late = replace(row_of_tasks(MOST_TASKS, 1, 1_000_000), releases=dict.fromkeys(range(MOST_TASKS), LATEST_RELEASE))
+    yield "64 tasks on one unit, not before the latest instant", text_of(late), 65_000_000
+    two = replace(row_of_tasks(2, 2, 1), times={(0, 0): (1, 1), (1, 0): (1, 3)})
+    yield "two tasks, the first not before 20", text_of(replace(two, releases={0: 20})), 23
+    yield "two tasks, both not before 20", text_of(replace(two, releases={0: 20, 1: 20})), 23
     for path in sorted(TOP.glob("examples/*.txt")):
         yield path.name, path.read_bytes(), None
 

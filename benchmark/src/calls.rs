@@ -15,6 +15,7 @@ struct Plan {
     worst: [u32; PAIRS],
     predecessors: [u64; TASKS],
     deadlines: [u32; TASKS],
+    releases: [u32; TASKS],
 }
 
 #[repr(C)]
@@ -132,6 +133,7 @@ impl Input {
                 worst: plan.worst,
                 predecessors: plan.predecessors,
                 deadlines: plan.deadlines,
+                releases: plan.releases,
             },
             constraint: Constraint {
                 length: constraint.length as usize,

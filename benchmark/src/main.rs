@@ -13,7 +13,7 @@ use calls::{Adoption, Answers, Input, Record, Run, Slacks, Text, Ticked, Verdict
 use plans::Shape;
 use program::Program;
 use rival::fast;
-use rival::limits::{LATEST_DEADLINE, LONGEST_TEXT, LONGEST_TIME, TASKS};
+use rival::limits::{LATEST_DEADLINE, LATEST_RELEASE, LONGEST_TEXT, LONGEST_TIME, TASKS};
 use rival::plan::Refusal;
 use rival::simulate::worst_times;
 use std::hint::black_box;
@@ -195,6 +195,23 @@ fn long_times(table: &mut Table, name: &str, shape: &Shape) {
     table.line(name, || measure::by_turns(|| run(&long), || run(&short)), Some(1.2));
 }
 
+/// Ours against ours: late not-before instants must cost no more than none.
+fn late_releases(table: &mut Table, name: &str, shape: &Shape) {
+    let (plan, constraint) = shape.plan();
+    let mut late = plan.clone();
+    late.releases = [LATEST_RELEASE; TASKS];
+    let times = worst_times(&plan, &constraint);
+    let run = |input: &Input| calls::simulate(black_box(input), black_box(&times));
+    let inputs = [&plan, &late].map(|plan| {
+        let input = Input::new(plan, &constraint);
+        let rivals = fast::simulate(plan, &constraint, &times).expect("legal times");
+        assert_same(name, run(&input), Run::accepted(rivals));
+        input
+    });
+    assert_eq!(run(&inputs[0]).response + LATEST_RELEASE, run(&inputs[1]).response);
+    table.line(name, || measure::by_turns(|| run(&inputs[1]), || run(&inputs[0])), Some(1.2));
+}
+
 fn main() {
     let words: Vec<String> = std::env::args().skip(1).collect();
     let timed = words.is_empty();
@@ -224,6 +241,9 @@ fn main() {
     t.head(["simulation, ours against ours", &format!("of {LONGEST_TIME}"), "of 1", "", ""]);
     long_times(t, "times, the largest plan", &plans::ANY_TIMES);
     long_times(t, "times, few arrows", &plans::ANY_TIMES_FEW_ARROWS);
+    t.head(["simulation, ours against ours", &format!("of {LATEST_RELEASE}"), "of 0", "", ""]);
+    late_releases(t, "not before, the largest plan", &plans::LARGEST);
+    late_releases(t, "not before, few arrows", &plans::FEW_ARROWS);
     for missed in &table.missed {
         println!("target missed: {missed}");
     }

@@ -17,24 +17,24 @@ import pathlib
 from collections import namedtuple
 from ctypes import POINTER, byref, c_bool, c_int64, c_size_t, c_uint8, c_uint32, c_uint64
 
-VERSION = 500
+VERSION = 600
 TASKS = 64
-TIMETABLE_MOST = 1448
-ANSWER_MOST = 1448
+TIMETABLE_MOST = 1456
+ANSWER_MOST = 1456
 
 SENTENCES = {
     1: "the text has more than 32,768 bytes",
-    2: "not one of the five line forms",
-    3: "a number out of range: type above 7, count 0 or above 8, task above 63, time or deadline 0 or above 1,000,000",
+    2: "not one of the six line forms",
+    3: "a number out of range: type above 7, count 0 or above 8, task above 63, time or deadline 0 or above 1,000,000, not-before instant above 1,000,000",
     4: "worst below best, or an arrow from a task to itself",
     5: "a kind of line after a later kind",
-    6: "a U type that is not the next, a T type without U line, an A, D or C task without T line",
-    7: "a pair of task and type, an arrow, the D line of a task or its C line for the second time",
+    6: "a U type that is not the next, a T type without U line, an A, D, N or C task without T line",
+    7: "a pair of task and type, an arrow, or the D, N or C line of a task for the second time",
     8: "the plan breaks a rule",
     9: "the order does not name every task once",
     10: "a task is to run on a type that it cannot use, or that the plan does not have",
     11: "a task stands before one that it waits for",
-    12: "the state is not one that start and tick make; among others its instant is above 64,000,000, or is that with a task unfinished",
+    12: "the state is not one that start and tick make; among others its instant is above 65,000,000, or is that with a task unfinished, or a task has started before its not-before instant",
     13: "all tasks are finished",
     14: "a reported task is not running",
     16: "a running task is not reported and has now run its worst time",
@@ -43,7 +43,7 @@ SENTENCES = {
     19: "a lent buffer is too short",
     20: "a schedule does not have one record for each task",
     21: "a record has a type that its task cannot use or that the plan does not have, or its finish is not its start plus the worst time",
-    22: "a record starts before a task that it waits for has finished, or when all units of its type are held",
+    22: "a record starts before a task that it waits for has finished, before its not-before instant, or when all units of its type are held",
 }
 
 
@@ -62,7 +62,7 @@ class Refused(Exception):
 
 
 class _Plan(ctypes.Structure):
-    _fields_ = [("words", c_uint64 * 614)]
+    _fields_ = [("words", c_uint64 * 646)]
 
 
 class _Constraint(ctypes.Structure):
@@ -70,7 +70,7 @@ class _Constraint(ctypes.Structure):
 
 
 class _State(ctypes.Structure):
-    _fields_ = [("words", c_uint64 * 810)]
+    _fields_ = [("words", c_uint64 * 842)]
 
 
 _VERDICT = [("number", c_uint32), ("place", c_size_t)]

@@ -114,6 +114,7 @@ static slot plan_slot(uint64_t part, plan_fields *p, bench_constraint *c) {
     case 7: return (slot){ .sizes = c->task, .count = BENCH_TASKS };
     case 8: return (slot){ .sizes = c->unit_type, .count = BENCH_TASKS };
     case 14: return (slot){ .short_ones = p->deadlines, .count = BENCH_TASKS };
+    case 15: return (slot){ .short_ones = p->releases, .count = BENCH_TASKS };
     default: return (slot){ .count = 0 };
     }
 }

@@ -28,6 +28,7 @@ class PlanFields(ctypes.Structure):
         ("worst", c_uint32 * PAIRS),
         ("predecessors", c_uint64 * TASKS),
         ("deadlines", c_uint32 * TASKS),
+        ("releases", c_uint32 * TASKS),
     ]
 
 
@@ -47,7 +48,7 @@ class StateFields(ctypes.Structure):
     ]
 
 
-PLAN_PARTS = {0: "types", 1: "units", 2: "tasks", 3: "best", 4: "worst", 5: "predecessors", 14: "deadlines"}
+PLAN_PARTS = {0: "types", 1: "units", 2: "tasks", 3: "best", 4: "worst", 5: "predecessors", 14: "deadlines", 15: "releases"}
 CONSTRAINT_PARTS = {6: "length", 7: "task", 8: "type"}
 STATE_PARTS = {9: "instant", 10: "started", 11: "finished", 12: "starts", 13: "finishes"}
 

@@ -11,7 +11,7 @@ typedef struct {
     size_t tasks;
     uint32_t best[PAIRS], worst[PAIRS];
     uint64_t predecessors[BENCH_TASKS];
-    uint32_t deadlines[BENCH_TASKS];
+    uint32_t deadlines[BENCH_TASKS], releases[BENCH_TASKS];
 } plan_fields;
 
 typedef struct {
@@ -26,6 +26,6 @@ typedef struct {
 typedef union { bench_plan words; plan_fields fields; } plan_both;
 typedef union { bench_state words; state_fields fields; } state_both;
 
-BENCH_SIZE(plan_fields, 4912);
-BENCH_SIZE(state_fields, 6480);
+BENCH_SIZE(plan_fields, 5168);
+BENCH_SIZE(state_fields, 6736);
 #endif

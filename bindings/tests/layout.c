@@ -45,6 +45,11 @@ static void deadline(size_t task, uint32_t instant) {
     plan.fields.deadlines[task] = instant;
 }
 
+static void release(size_t task, uint32_t instant) {
+    LINE("N\t%zu\t%u\n", task, instant);
+    plan.fields.releases[task] = instant;
+}
+
 static void choice(size_t task, size_t type) {
     LINE("C\t%zu\t%zu\n", task, type);
     constraint.task[constraint.length] = task;
@@ -72,6 +77,7 @@ static void check_read(void) {
             times(t, k, (uint32_t)(1000 + t * BENCH_TYPES + k), (uint32_t)(100000 + t * BENCH_TYPES + k));
     for (size_t t = 1; t < BENCH_TASKS; t++) arrow(t, t - 1);
     for (size_t t = 0; t < BENCH_TASKS; t++) deadline(t, (uint32_t)(500000 + t));
+    for (size_t t = 0; t < BENCH_TASKS; t++) release(t, t == 63 ? 0 : (uint32_t)(600000 + t));
     for (size_t t = BENCH_TASKS; t-- > 0; ) choice(t, t * 3 % BENCH_TYPES);
     bench_text r = read_text();
     HOLDS(r.number == 0 && r.place == 0);
@@ -82,7 +88,7 @@ static void check_read(void) {
     HOLDS(!memcmp(&s.fields.plan, &plan, sizeof plan) && !memcmp(&s.fields.constraint, &constraint, sizeof constraint));
     length--;
     r = read_text();
-    HOLDS(r.number == BENCH_NO_LINE_FORM && r.place == 8 + 512 + 63 + 64 + 64);
+    HOLDS(r.number == BENCH_NO_LINE_FORM && r.place == 8 + 512 + 63 + 64 + 64 + 64);
     begin(0, 0);
     HOLDS(same_plan(&r.plan, &r.constraint));
 }
@@ -99,6 +105,11 @@ static void check_verdicts(void) {
     plan.fields.deadlines[63]++;
     HOLDS(bench_check(plan.words, constraint).number == BENCH_PLAN_RULE);
     plan.fields.deadlines[63] = 0;
+    plan.fields.releases[63] = BENCH_LONGEST_TIME;
+    HOLDS(bench_check(plan.words, constraint).number == 0);
+    plan.fields.releases[63]++;
+    HOLDS(bench_check(plan.words, constraint).number == BENCH_PLAN_RULE);
+    plan.fields.releases[63] = 0;
     constraint.unit_type[63] = 1;
     bench_verdict v = bench_check(plan.words, constraint);
     HOLDS(v.number == BENCH_NOT_USABLE && v.place == 63);
@@ -244,6 +255,32 @@ static void check_ticks(void) {
     HOLDS(s.fields.instant == 3 && s.fields.started == 4 && s.fields.finished == 3);
 }
 
+/* Task 1 of plan A not before 4: the run waits for it, a list and a state in which it starts at 3 are refused. */
+static void check_releases(void) {
+    static const size_t task[5] = { 0, 1, 2, 3, 4 }, type[5] = { 0, 0, 1, 1, 0 };
+    bench_record r[5] = { { 0, 0, 0, 2 }, { 1, 0, 3, 6 }, { 2, 1, 4, 8 }, { 3, 1, 7, 10 }, { 4, 0, 8, 10 } };
+    plan_a();
+    plan.fields.releases[1] = 4;
+    bench_run run = bench_bound(plan.words, constraint);
+    HOLDS(run.number == 0 && run.response == 10 && run.starts[1] == 4 && run.starts[2] == 4 && run.starts[4] == 8);
+    bench_adoption a = bench_adopt(plan.words, r, 5);
+    HOLDS(a.number == BENCH_LIST_STARTS && a.place == 1);
+    r[1].start = 4;
+    r[1].finish = 7;
+    HOLDS(adopted_so(r, task, type));
+    bench_ticked t = bench_tick(bench_start(plan.words, constraint).state, 1);
+    for (int i = 0; i < 2; i++) t = bench_tick(t.state, 0);
+    HOLDS(t.number == 0 && t.started == 0);
+    t = bench_tick(t.state, 0);
+    HOLDS(t.number == 0 && t.started == 6);
+    state_both s = both(t.state);
+    HOLDS(s.fields.instant == 4 && s.fields.starts[1] == 4);
+    s.fields.starts[1] = 3;
+    HOLDS(bench_tick(s.words, 0).number == BENCH_UNSOUND_STATE);
+    s.fields.plan.releases[1] = 3;
+    HOLDS(bench_tick(s.words, 0).number == 0);
+}
+
 /* A state in which each number is another one comes back whole. */
 static void check_unsound(void) {
     state_both s;
@@ -349,6 +386,7 @@ static void check_limits(void) {
     begin(1, BENCH_TASKS);
     units(0, 1);
     for (size_t t = 0; t < BENCH_TASKS; t++) times(t, 0, 1, BENCH_LONGEST_TIME);
+    release(0, BENCH_LONGEST_TIME);
     for (size_t t = 0; t < BENCH_TASKS; t++) choice(t, 0);
     HOLDS(read_text().number == 0);
     HOLDS(bench_bound(plan.words, constraint).response == BENCH_LAST_INSTANT);
@@ -372,6 +410,7 @@ int main(void) {
     check_schedules();
     check_texts();
     check_ticks();
+    check_releases();
     check_unsound();
     check_sizes();
     check_widths();

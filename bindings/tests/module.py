@@ -3,7 +3,8 @@ import sys
 
 import benchplan
 
-plan = benchplan.read(open(sys.argv[1], "rb").read())
+text = open(sys.argv[1], "rb").read()
+plan = benchplan.read(text)
 worst = [2, 3, 4, 3, 2]
 
 
@@ -72,5 +73,10 @@ replayed = plan.replay([{0}, {4}, {1, 2}])
 assert replayed.started == {0} and replayed.ticks == [(0, 0, {1, 2}), (14, 4, set()), (0, 0, {3, 4})]
 assert refusal_of(replayed.state.tick, {3, 4}) == (0, 0) and plan.replay([]).ticks == []
 assert raises(ValueError, plan.replay, [{64}])
+
+# Task 1 not before 4: the ticks until then begin nothing.
+warm = benchplan.read(text.replace(b"C", b"N\t1\t4\nC", 1))
+assert warm.bound().response == 10 and [began for _, _, began in warm.replay([{0}, (), (), ()]).ticks] == [set(), set(), set(), {1, 2}]
+assert refusal_of(warm.adopt, [(0, 0, 0, 2), (1, 0, 3, 6), (2, 1, 4, 8), (3, 1, 7, 10), (4, 0, 8, 10)]) == (22, 1)
 
 print("the Python module does by itself what it should")

@@ -32,13 +32,14 @@ fn usable(plan: &Plan, task: usize, kind: usize) -> bool {
     plan.best[pair(task, kind)] != 0
 }
 
-/// The rules of "The plan", with its deadlines.
+/// The rules of "The plan", with its deadlines and not-before instants.
 pub fn keeps_the_rules(plan: &Plan) -> bool {
     plan.counts_are_right()
         && units_are_right(plan)
         && pairs_are_right(plan)
         && predecessors_are_right(plan)
-        && deadlines_are_right(plan)
+        && instants_are_right(plan, &plan.deadlines, LATEST_DEADLINE)
+        && instants_are_right(plan, &plan.releases, LATEST_RELEASE)
 }
 
 fn units_are_right(plan: &Plan) -> bool {
@@ -70,10 +71,10 @@ fn predecessors_are_right(plan: &Plan) -> bool {
     })
 }
 
-fn deadlines_are_right(plan: &Plan) -> bool {
+/// One instant for each task, up to the latest; 0 for absent tasks.
+fn instants_are_right(plan: &Plan, instants: &[u32; TASKS], latest: u32) -> bool {
     (0..TASKS).all(|t| {
-        let deadline = plan.deadlines[t];
         let present = (t as u64) < plan.tasks;
-        deadline == 0 || (present && deadline <= LATEST_DEADLINE)
+        instants[t] == 0 || (present && instants[t] <= latest)
     })
 }

@@ -82,6 +82,7 @@ fn plan_slot<'a>(
         7 => Slot::Long(constraint.task.get_mut(index)?),
         8 => Slot::Long(constraint.kind.get_mut(index)?),
         14 => Slot::Short(plan.deadlines.get_mut(index)?),
+        15 => Slot::Short(plan.releases.get_mut(index)?),
         _ => return None,
     })
 }
@@ -214,6 +215,9 @@ impl Driver {
 
     fn bound(&mut self) {
         let answer = bound(&self.plan, &self.constraint);
+        if let Ok(run) = &answer {
+            self.reached.note_bound("B", &self.plan, &self.constraint, run);
+        }
         let answer = answer.map(|run| run.response);
         self.reached.note_adopted("B", self.adopted, &answer.map(Some));
         self.say("B", "bound", answer.err().as_ref(), &[answer.unwrap_or(0)]);
@@ -238,12 +242,18 @@ impl Driver {
         let mut rest = vec![run.response as u64];
         rest.extend(starts_and_finishes(&run.starts, &run.finishes));
         self.reached.note_times("M", &self.plan, &self.constraint, times, &answer);
+        if let Ok(run) = &answer {
+            self.reached.note_run("M", &self.plan, &self.constraint, run);
+        }
         self.say("M", "simulate", answer.as_ref().err(), &rest);
     }
 
     fn start(&mut self) {
         let (state, answer) = start(&self.plan, &self.constraint);
         self.state = state;
+        if let Ok(started) = answer {
+            self.reached.note_walk("S", &self.state, 0, started);
+        }
         self.say("S", "start", answer.err().as_ref(), &[answer.unwrap_or(0)]);
     }
 
@@ -254,8 +264,12 @@ impl Driver {
         self.state = state;
         self.reached.note_instant("T", instant, &self.state, &answer);
         match answer {
-            Ok(_) => self.reached.note_tick("T", &self.state, self.state.instant),
+            Ok(started) => {
+                self.reached.note_tick("T", &self.state, self.state.instant);
+                self.reached.note_walk("T", &self.state, self.state.instant, started);
+            }
             Err(Refusal { number: 12, .. }) => self.reached.note_unsound("T", &self.state),
+            Err(Refusal { number: 14, .. }) => self.reached.note_stranger("T", &self.state),
             Err(Refusal { number: 16, place }) => {
                 self.reached.note_overrun("T", &self.state, place);
             }
@@ -332,9 +346,10 @@ impl Driver {
             for tick in &replayed.ticks {
                 let [number, place] = number_and_place(tick.err().as_ref());
                 self.reached.note(TICKS_OF_Z, number);
-                if tick.is_ok() {
+                if let Ok(started) = tick {
                     instant += 1;
                     self.reached.note_tick(TICKS_OF_Z, &state, instant);
+                    self.reached.note_walk(TICKS_OF_Z, &state, instant, *started);
                 }
                 ticks.extend([number, place, tick.unwrap_or(0)]);
             }

@@ -8,6 +8,9 @@ pub const TIMES: [u32; 5] = up_to(LONGEST_TIME);
 
 pub const DEADLINES: [u32; 5] = up_to(LATEST_DEADLINE);
 
+/// 0, which is allowed too, says what no line says.
+pub const RELEASES: [u32; 5] = up_to(LATEST_RELEASE);
+
 /// All from 1 to the last.
 const fn up_to(last: u32) -> [u32; 5] {
     [1, SIXTEEN_BITS, SIXTEEN_BITS + 1, last - 1, last]

@@ -57,7 +57,7 @@ impl Session {
         }
         self.longest_run();
         // In every third session about half of the commands are timetables of given times and replays.
-        let kinds = if self.random.once_in(3) { 35 } else { 23 };
+        let kinds = if self.random.once_in(3) { 36 } else { 24 };
         for _ in 0..if accepted { self.random.from(6, 30) } else { 4 } {
             let kind = self.random.below(kinds);
             self.write_some(kind);
@@ -79,15 +79,16 @@ impl Session {
             3 => self.worst_timetable(),
             4 if self.random.once_in(5) => self.alter_pair(),
             4 => self.alter_plan(),
+            5 if self.random.once_in(2) => self.early_start(),
             5 | 6 => self.alter_state(),
             7 => self.give("Q"),
             8 => self.odd_line(),
             9 if self.random.once_in(3) => self.late_instants(),
-            9 => {}
+            9 | 23 => self.alter_release(),
             10 => self.give("S"),
             11..=13 => self.ticks(),
             14 => self.alter_order(),
-            15 | 23..=28 => self.timetable(),
+            15 | 24..=29 => self.timetable(),
             17 => self.give("D"),
             18 if self.random.once_in(3) => self.alter_worst(),
             18 | 19 => self.alter_deadline(),
@@ -203,6 +204,7 @@ impl Session {
                 7 => self.random.below(tasks + 1),
                 8 => self.random.below(types + 1),
                 14 => u64::from(LATEST_DEADLINE) + self.random.below(2),
+                15 => u64::from(LATEST_RELEASE) + self.random.below(2),
                 _ => old.wrapping_add(1),
             },
             0 => old.wrapping_add(1),
@@ -244,11 +246,11 @@ impl Session {
     fn alter_plan(&mut self) {
         let back = if self.random.once_in(4) {
             self.put_records();
-            let back = self.put('P', &[0, 1, 1, 2, 3, 4, 4, 5, 5, 14]);
+            let back = self.put('P', &[0, 1, 1, 2, 3, 4, 4, 5, 5, 14, 15]);
             self.give("L");
             back
         } else {
-            let back = self.put('P', &[0, 1, 2, 3, 4, 5, 5, 6, 7, 7, 8, 8, 9, 14, 14]);
+            let back = self.put('P', &[0, 1, 2, 3, 4, 5, 5, 6, 7, 7, 8, 8, 9, 14, 14, 15, 15]);
             self.ask();
             back
         };
@@ -318,7 +320,7 @@ impl Session {
         let commands =
             [('P', "D"), ('P', "D"), ('P', "K"), ('P', "S"), ('P', "L"), ('P', "any"), ('R', "T")];
         let (letter, then) = self.random.pick(&commands);
-        if letter == 'R' && self.last_in_time().is_none() {
+        if letter == 'R' && self.last_quiet().is_none() {
             self.give("S");
         }
         (letter, then)
@@ -353,12 +355,17 @@ impl Session {
         }
     }
 
+    /// A task, mostly one of the plan's.
+    fn some_task(&mut self) -> u64 {
+        let ((tasks, _), last) = (self.sizes(), TASKS as u64 - 1);
+        let (present, absent) = (self.random.below(tasks), self.random.from(tasks.min(last), last));
+        self.random.pick(&[present, present, absent])
+    }
+
     /// Puts a deadline or takes one away; for a while, one out of range or of an absent task.
     fn alter_deadline(&mut self) {
         let (letter, then) = self.plan_or_state();
-        let ((tasks, _), last) = (self.sizes(), TASKS as u64 - 1);
-        let (present, absent) = (self.random.below(tasks), self.random.from(tasks.min(last), last));
-        let task = self.random.pick(&[present, present, absent]);
+        let ((tasks, _), task) = (self.sizes(), self.some_task());
         let (old, other) = self.deadline_and_another(letter, task as usize);
         let beyond = self.random.pick(&[u64::from(LATEST_DEADLINE) + 1, u32::MAX.into()]);
         let value = self.random.pick(&[other, other, other, 0, beyond]);
@@ -377,12 +384,63 @@ impl Session {
         (old, inputs::deadline(&mut self.random, finish.into()))
     }
 
+    /// Puts a not-before instant or takes one away, mostly for a while: one that makes a start too
+    /// soon or a task wait, one out of range or of an absent task.
+    fn alter_release(&mut self) {
+        let (letter, then) = self.plan_or_state();
+        let ((tasks, _), task) = (self.sizes(), self.some_task());
+        let (old, start) = self.release_and_start(letter, task as usize);
+        let other = inputs::release(&mut self.random, start);
+        let one_above = u64::from(LATEST_RELEASE) + 1;
+        let beyond = self.random.pick(&[one_above, one_above, u32::MAX.into()]);
+        let value = self.random.pick(&[other, other, other, other, start + 1, 0, beyond]);
+        self.give(&format!("{letter}\t15\t{task}\t{value}"));
+        self.ask_for(then);
+        let may_stay = letter == 'P' && task < tasks && value < start + 10;
+        if !may_stay || self.random.once_in(2) {
+            self.give(&format!("{letter}\t15\t{task}\t{old}"));
+        }
+    }
+
+    /// The not-before instant that `P` or `R` would alter, and when the task starts or could.
+    fn release_and_start(&self, letter: char, task: usize) -> (u32, u64) {
+        let Driver { plan, constraint, state, .. } = &self.driver;
+        if letter == 'P' {
+            let start = bound(plan, constraint).map_or(0, |run| run.starts[task]);
+            return (plan.releases[task], start.into());
+        }
+        let started = state.sound() && (state.running() | state.finished) >> task & 1 == 1;
+        let start = if started { state.starts[task] } else { state.instant };
+        (state.plan.releases[task], start.into())
+    }
+
+    /// Makes the start of a running or finished task too soon for a while, mostly by one: its
+    /// instant is later, or the start was at its instant and is sooner.
+    fn early_start(&mut self) {
+        let state = &self.driver.state;
+        let sets = if state.sound() { [state.running(), state.finished] } else { [0, 0] };
+        let set: Vec<usize> = members(self.random.pick(&sets)).collect();
+        if set.is_empty() {
+            return;
+        }
+        let task = self.random.pick(&set);
+        let (start, release) = (state.starts[task], state.plan.releases[task]);
+        let (part, old, value) = match start == release && start > 0 && self.random.once_in(2) {
+            true => (12, start, start - 1),
+            false => (15, release, start + self.random.pick(&[1, 1, 5])),
+        };
+        self.give(&format!("R\t{part}\t{task}\t{value}"));
+        self.legal_tick();
+        self.give(&format!("R\t{part}\t{task}\t{old}"));
+    }
+
     fn alter_state(&mut self) {
-        if self.last_in_time().is_none() && self.random.once_in(2) {
+        if self.last_quiet().is_none() && self.random.once_in(2) {
             self.give("S");
         }
-        let parts = [0, 1, 1, 2, 3, 4, 5, 6, 7, 8, 9, 9, 9, 10, 10, 11, 11, 12, 12, 13, 13, 14, 14, 15];
-        let back = self.put('R', &parts);
+        let of_plan = [0, 1, 1, 2, 3, 4, 5, 6, 7, 8, 14, 14, 15, 15];
+        let of_state = [9, 9, 9, 10, 10, 11, 11, 12, 12, 13, 13, 16];
+        let back = self.put('R', &[&of_plan[..], &of_state].concat());
         self.legal_tick();
         if let Some(back) = back.filter(|_| !self.random.once_in(12)) {
             self.give(&back);
@@ -396,35 +454,38 @@ impl Session {
     }
 
     fn ticks(&mut self) {
-        if self.last_in_time().is_none() && !self.random.once_in(4) {
+        if self.last_quiet().is_none() && !self.random.once_in(4) {
             self.give("S");
         }
         for _ in 0..self.random.from(1, 12) {
             let report = inputs::some_report(&mut self.random, &self.driver.state);
-            if self.random.once_in(14) {
+            let idle = self.driver.state.sound() && self.driver.state.running() == 0;
+            if self.random.once_in(if idle { 3 } else { 14 }) {
                 self.jump();
             }
             self.give(&format!("T\t{report}"));
-            if self.last_in_time().is_none() && self.random.once_in(2) {
+            if self.last_quiet().is_none() && self.random.once_in(2) {
                 break;
             }
         }
     }
 
-    /// The instant before some running task has run its worst.
-    fn last_in_time(&self) -> Option<u32> {
+    /// The instant before some running task has run its worst or the next task's instant comes.
+    fn last_quiet(&self) -> Option<u32> {
         let state = &self.driver.state;
         if !state.sound() {
             return None;
         }
         let chosen = state.constraint.chosen();
         let last = |t: usize| state.starts[t] + state.plan.worst[pair(t, chosen[t])] - 1;
-        members(state.running()).map(last).min()
+        let release = state.next().map(|t| state.plan.releases[t]);
+        let to_come = release.filter(|&release| release > state.instant);
+        members(state.running()).map(last).chain(to_come.map(|release| release - 1)).min()
     }
 
     /// Moves the instant on over a long time in which nothing happens.
     fn jump(&mut self) {
-        if let Some(last) = self.last_in_time() {
+        if let Some(last) = self.last_quiet() {
             let back = self.random.below(2) as u32;
             let instant = last.saturating_sub(back).max(self.driver.state.instant);
             self.give(&format!("R\t9\t0\t{instant}"));
@@ -434,8 +495,8 @@ impl Session {
     /// Ticks until all is finished: every task at its worst time, or some of them sooner.
     fn to_the_end(&mut self) {
         let worst = self.random.once_in(3);
-        for _ in 0..150 {
-            let Some(last) = self.last_in_time() else { break };
+        for _ in 0..200 {
+            let Some(last) = self.last_quiet() else { break };
             if worst {
                 self.due_tick(last);
                 continue;
@@ -480,9 +541,10 @@ impl Session {
         let lines = [
             "", "K\t", "K\t0", "B ", "k", "T", "T\t", "T\t-1", "T\t1\t2", "S\r", "Q\t1", "W", "Y", "z",
             "W\t00000000000000000012", "W\t000000000000000000012", "T\t18446744073709551615",
-            "T\t18446744073709551616", "P\t0\t0", "P\t9\t0\t0", "R\t15\t0\t0", "P\t0\t1\t1",
-            "D\t", "D\t0", "d", "D ", "DD", "P\t13\t0\t0", "P\t15\t0\t0", "P\t14\t0", "P\t14\t0\t4294967296",
-            "R\t14\t0\t4294967296", "P\t14\t0\t-1",
+            "T\t18446744073709551616", "P\t0\t0", "P\t9\t0\t0", "R\t16\t0\t0", "P\t0\t1\t1",
+            "D\t", "D\t0", "d", "D ", "DD", "P\t13\t0\t0", "P\t16\t0\t0", "P\t14\t0", "P\t14\t0\t4294967296",
+            "R\t14\t0\t4294967296", "P\t14\t0\t-1", "N", "N\t0\t0", "P\t15\t0", "P\t15\t0\t-1",
+            "P\t15\t0\t4294967296", "R\t15\t0\t4294967296", "R\t15\t0", "R\t15\t0\t0\t0",
             "R\t9\t0\t4294967296", "M\t", "\tK", "KK", "M\t4294967296", "Y\t", "Y\t9\t", "Y\t9\t-1",
             "E", "E\t", "E\t0\t0\t0", "E\t0\t0\t0\t", "E\t0\t0\t0\t1\t0", "E\t0\t0\t-1\t0", "e\t0\t0\t0\t1",
             "E\t0\t0\t0\t1", "E\t0\t0\t0\t00000000000000000001", "E\t0\t0\t0\t000000000000000000001",
@@ -498,6 +560,8 @@ impl Session {
             format!("P\t7\t{TASKS}\t0"),
             format!("P\t14\t{TASKS}\t0"),
             format!("R\t14\t{TASKS}\t1"),
+            format!("P\t15\t{TASKS}\t0"),
+            format!("R\t15\t{TASKS}\t1"),
         ];
         let lines: Vec<&str> = lines.into_iter().chain(beyond.iter().map(String::as_str)).collect();
         let line = self.random.pick(&lines);

@@ -1,4 +1,4 @@
-//! Random times, deadlines and reports for a plan: most are legal, the others are wrong on purpose.
+//! Random times, instants and reports for a plan: most are legal, the others are wrong on purpose.
 use crate::check::check;
 use crate::driver::LONGEST_LIST;
 use crate::edges::{self, SIXTEEN_BITS};
@@ -100,6 +100,34 @@ fn one_deadline(random: &mut Random, which: u64, finish: u64) -> u64 {
         _ => return deadline(random, finish),
     };
     deadline.clamp(first, last)
+}
+
+/// A not-before instant for each of these starts, all chosen in one way or each in its own.
+pub fn releases(random: &mut Random, starts: &[u32]) -> Vec<u64> {
+    let which = random.below(17);
+    starts.iter().map(|&start| one_release(random, which, start.into())).collect()
+}
+
+/// A not-before instant for a task with this start: mostly when it is, soon after, before or 0; now
+/// and then an edge, or anything.
+pub fn release(random: &mut Random, start: u64) -> u64 {
+    let which = random.below(13);
+    one_release(random, which, start)
+}
+
+fn one_release(random: &mut Random, which: u64, start: u64) -> u64 {
+    let last = u64::from(LATEST_RELEASE);
+    let release = match which {
+        0 => 0,
+        1 => start,
+        2..=4 => start + 1,
+        5..=8 => start + random.from(1, 9),
+        9 | 10 => random.from(0, start),
+        11 => random.pick(&edges::RELEASES).into(),
+        12 => random.from(0, last),
+        _ => return release(random, start),
+    };
+    release.min(last)
 }
 
 /// A report that a sound state takes; 0 for others.

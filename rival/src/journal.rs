@@ -67,7 +67,9 @@ impl Journal {
             let kind = self.kind(task);
             let running = self.tasks(Progress::Running);
             let busy = running.iter().filter(|&&t| self.kind(t) == kind).count();
-            if self.progress(task) != Progress::Ready || busy >= self.plan.units[kind] as usize {
+            let ready = self.progress(task) == Progress::Ready;
+            let come = self.instant >= self.plan.releases[task];
+            if !ready || !come || busy >= self.plan.units[kind] as usize {
                 break;
             }
             self.start[task] = Some(self.instant);

@@ -17,6 +17,7 @@ pub mod plan;
 pub mod random;
 pub mod reached;
 pub mod reader;
+pub mod releases;
 pub mod run;
 pub mod schedule;
 pub mod simulate;

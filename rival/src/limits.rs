@@ -17,6 +17,9 @@ pub const LONGEST_TIME: u32 = 1_000_000;
 /// Every instant from 1 to this one may be a deadline.
 pub const LATEST_DEADLINE: u32 = LONGEST_TIME;
 
+/// Every instant from 0 to this one may be the earliest at which a task may start.
+pub const LATEST_RELEASE: u32 = 1_000_000;
+
 /// Of a task that finishes last of all and has the earliest deadline.
 pub const LEAST_MARGIN: i64 = 1 - LAST_INSTANT as i64;
 
@@ -26,9 +29,10 @@ pub const GREATEST_MARGIN: i64 = LATEST_DEADLINE as i64 - 1;
 /// Of a field of a plan text.
 pub const DIGITS: usize = 7;
 
-/// No sound state is later, and no sound state with an unfinished task is as late: by then all
-/// tasks have run, one after the other, each as long as may be.
-pub const LAST_INSTANT: u32 = TASKS as u32 * LONGEST_TIME;
+/// No sound state is later, and no sound state with an unfinished task is as late: by then the
+/// latest not-before instant has come and, after it, all tasks have run, one after the other, each
+/// as long as may be.
+pub const LAST_INSTANT: u32 = LATEST_RELEASE + TASKS as u32 * LONGEST_TIME;
 
 /// In bytes.
 pub const LONGEST_TEXT: usize = 32_768;
@@ -40,7 +44,7 @@ const fn longest_timetable() -> usize {
     let mut bytes = "R\t\n".len() + width(LAST_INSTANT);
     let mut task = 0;
     while task < TASKS as u32 {
-        let start = task * LONGEST_TIME;
+        let start = LATEST_RELEASE + task * LONGEST_TIME;
         let instants = width(start) + width(start + LONGEST_TIME);
         bytes += width(task) + width(TYPES as u32 - 1) + instants + "\t\t\t\n".len();
         task += 1;

@@ -1,5 +1,5 @@
 //! The cases of records that are put, of lists that are adopted, and of what these give.
-use crate::cases::Case;
+use crate::cases::{those_that_are, Case};
 use crate::driver::MOST_RECORDS;
 use crate::limits::*;
 use crate::plan::*;
@@ -74,17 +74,25 @@ pub const FINISH_AFTER: Case = (21, "for a finish one after");
 pub const WRAPPED: Case = (21, "for a wrapped sum");
 pub const LEAST_WRAPPED: Case = (21, "for the least wrapped sum");
 
-/// The other fault of 22 is not there.
+/// The other faults of 22 are not there.
 pub const TOO_SOON: Case = (22, "before a predecessor's finish");
 pub const ONE_TOO_SOON: Case = (22, "one before a predecessor's finish");
+pub const BEFORE_INSTANT: Case = (22, "before its instant");
+pub const ONE_BEFORE_INSTANT: Case = (22, "one before its instant");
 pub const CROWDED: Case = (22, "for too many holders");
 pub const ONE_TOO_CROWDED: Case = (22, "for one holder too many");
 
+/// The refused record is faulty only for its instant, a later one only for something else; or the
+/// refused one is not faulty for its instant, and a later one is.
+pub const INSTANT_FIRST: Case = (22, "before its instant ahead of another fault");
+pub const INSTANT_LATER: Case = (22, "for another fault ahead of one before its instant");
+
 /// Of the record that is refused.
-pub const RECORDS: [Case; 20] = [
+pub const RECORDS: [Case; 24] = [
     ABSENT_TASK, NEXT_TASK, TASK_OF_32_BITS, REPEATED_TASK, ABSENT_TYPE, NEXT_TYPE, NO_TYPE,
     TYPE_OF_32_BITS, UNUSABLE_TYPE, UNUSABLE_FOR_0, ANOTHERS_TIME, WRONG_FINISH, FINISH_BEFORE,
-    FINISH_AFTER, WRAPPED, LEAST_WRAPPED, TOO_SOON, ONE_TOO_SOON, CROWDED, ONE_TOO_CROWDED,
+    FINISH_AFTER, WRAPPED, LEAST_WRAPPED, TOO_SOON, ONE_TOO_SOON, BEFORE_INSTANT,
+    ONE_BEFORE_INSTANT, CROWDED, ONE_TOO_CROWDED, INSTANT_FIRST, INSTANT_LATER,
 ];
 
 /// For 20, 21 and 22: the first or last of several records, or the last of as many as may be.
@@ -112,15 +120,17 @@ pub const LAST_START: Case = (0, "last start");
 pub const LAST_FINISH: Case = (0, "finish of 32 bits");
 pub const LAST_TYPE: Case = (0, "last of all types");
 pub const AT_THE_FINISH: Case = (0, "start at a predecessor's finish");
+/// Which is not 0.
+pub const AT_ITS_INSTANT: Case = (0, "start at its instant");
 /// Of a type with several units.
 pub const ALL_HELD: Case = (0, "as many holders as units");
 /// A unit comes free at the start and is needed then.
 pub const TAKEN_OVER: Case = (0, "unit taken over at its finish");
 
 /// Of accepted lists.
-pub const ACCEPTED: [Case; 11] = [
+pub const ACCEPTED: [Case; 12] = [
     ONE_RECORD, ALL_TASKS, TIES, TIES_TURNED, START_OF_0, LAST_START, LAST_FINISH, LAST_TYPE,
-    AT_THE_FINISH, ALL_HELD, TAKEN_OVER,
+    AT_THE_FINISH, AT_ITS_INSTANT, ALL_HELD, TAKEN_OVER,
 ];
 
 const OF_AN_ADOPTED: &str = "of an adopted list";
@@ -134,10 +144,6 @@ pub const BOUND_ABOVE: Case = (0, "above the greatest finish");
 /// What an adopted list never gives.
 pub const NEVER: [Case; 5] =
     [(8, OF_AN_ADOPTED), (9, OF_AN_ADOPTED), (10, OF_AN_ADOPTED), (11, OF_AN_ADOPTED), BOUND_ABOVE];
-
-fn those_that_are(cases: &[(bool, Case)]) -> Vec<Case> {
-    cases.iter().filter(|(so, _)| *so).map(|(_, case)| *case).collect()
-}
 
 /// The cases of a record that is kept after so many others.
 pub fn cases_of_put(fields: &[u64; 4], before: usize) -> Vec<Case> {
@@ -239,16 +245,29 @@ fn cases_of_type(plan: &Plan, record: &Record) -> Vec<Case> {
 }
 
 fn cases_of_start(plan: &Plan, records: &[Record], place: usize) -> Vec<Case> {
-    let Record { unit_type, start, .. } = records[place];
-    let (too_soon, crowded) =
-        (starts_too_soon(plan, records, place), finds_no_unit(plan, records, place));
+    let Record { task, unit_type, start, .. } = records[place];
+    let faults = |place: usize| {
+        let faults = [starts_before_a_finish, starts_before_its_instant, finds_no_unit];
+        faults.map(|fault| fault(plan, records, place))
+    };
+    let too_soon = faults(place) == [true, false, false];
+    let before_instant = faults(place) == [false, true, false];
+    let crowded = faults(place) == [false, false, true];
+    let later = |before_instant: bool| {
+        let fits = |faults: [bool; 3]| faults.contains(&true) && faults[1] == before_instant;
+        (place + 1..records.len()).any(|other| fits(faults(other)))
+    };
     let finish = latest_finish_before(plan, records, place).unwrap_or(0);
     let one_crowded = holders(records, place) == plan.units[unit_type as usize] as usize + 1;
     those_that_are(&[
-        (!crowded, TOO_SOON),
-        (!crowded && start + 1 == finish, ONE_TOO_SOON),
-        (!too_soon, CROWDED),
-        (!too_soon && one_crowded, ONE_TOO_CROWDED),
+        (too_soon, TOO_SOON),
+        (too_soon && start + 1 == finish, ONE_TOO_SOON),
+        (before_instant, BEFORE_INSTANT),
+        (before_instant && start + 1 == plan.releases[task as usize], ONE_BEFORE_INSTANT),
+        (crowded, CROWDED),
+        (crowded && one_crowded, ONE_TOO_CROWDED),
+        (before_instant && later(false), INSTANT_FIRST),
+        (!faults(place)[1] && later(true), INSTANT_LATER),
     ])
 }
 
@@ -280,6 +299,8 @@ fn cases_of_accepted(plan: &Plan, records: &[Record]) -> Vec<Case> {
         records.iter().any(|other| other.unit_type == records[p].unit_type && ended(other))
     };
     let at_finish = |p: usize| latest_finish_before(plan, records, p) == Some(records[p].start);
+    let release = |p: usize| plan.releases[records[p].task as usize];
+    let at_instant = |p: usize| release(p) != 0 && release(p) == records[p].start;
     those_that_are(&[
         (records.len() == 1, ONE_RECORD),
         (records.len() == TASKS, ALL_TASKS),
@@ -290,6 +311,7 @@ fn cases_of_accepted(plan: &Plan, records: &[Record]) -> Vec<Case> {
         (some(&|p| records[p].finish == u32::MAX), LAST_FINISH),
         (some(&|p| records[p].unit_type as usize == TYPES - 1), LAST_TYPE),
         (some(&at_finish), AT_THE_FINISH),
+        (some(&at_instant), AT_ITS_INSTANT),
         (some(&|p| units(p) > 1 && held(p)), ALL_HELD),
         (some(&|p| held(p) && come_free(p)), TAKEN_OVER),
     ])

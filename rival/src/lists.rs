@@ -90,8 +90,8 @@ fn legal_order(random: &mut Random, plan: &Plan) -> Option<Vec<usize>> {
     Some(order)
 }
 
-/// Each task on a usable type, once its predecessors are done and, perhaps after a delay, a unit
-/// is free as long as the task holds it.
+/// Each task on a usable type, once its instant has come, its predecessors are done and, perhaps
+/// after a delay, a unit is free as long as the task holds it.
 fn placed(random: &mut Random, plan: &Plan, order: &[usize]) -> Vec<Record> {
     let delays = random.pick(&[1, 1, 1, 3, 50, u64::from(LONGEST_TIME)]);
     let rarity = random.pick(&[1, 3, 9]);
@@ -99,9 +99,10 @@ fn placed(random: &mut Random, plan: &Plan, order: &[usize]) -> Vec<Record> {
     for &task in order {
         let usable: Vec<usize> = (0..TYPES).filter(|&y| plan.best[pair(task, y)] != 0).collect();
         let unit_type = random.pick(&usable);
-        let ready = members(plan.predecessors[task]).map(|p| finishes[p]).max().unwrap_or(0);
+        let before = members(plan.predecessors[task]).map(|p| finishes[p]);
+        let from = before.fold(plan.releases[task], u32::max);
         let delay = if random.once_in(rarity) { random.below(delays) as u32 } else { 0 };
-        let record = earliest(plan, &list, task, unit_type, ready + delay);
+        let record = earliest(plan, &list, task, unit_type, from + delay);
         finishes[task] = record.finish;
         list.push(record);
     }
@@ -192,6 +193,7 @@ fn damage(random: &mut Random, plan: &Plan, rows: &mut Vec<Row>) {
         4 => rows[at] = wrapped(random, plan, &rows[at]),
         5 => rows[at][TASK] = other_task(random, plan, rows),
         6 | 7 => rows[at] = other_type(random, plan, &rows[at]),
+        8..=11 if random.once_in(2) => before_instant(random, plan, rows, at),
         8..=11 => too_soon(random, plan, rows, at),
         12..=14 => crowded(random, plan, rows, at),
         15 => {
@@ -239,6 +241,9 @@ fn other_type(random: &mut Random, plan: &Plan, row: &Row) -> Row {
     if random.once_in(3) { row } else { moved(plan, &row, row[START]) }
 }
 
+/// Makes a row that is brought to this place wrong.
+type Damage = fn(&mut Random, &Plan, &mut [Row], usize);
+
 /// Brings a row with predecessors here, and its start before their last finish, mostly by one.
 fn too_soon(random: &mut Random, plan: &Plan, rows: &mut [Row], at: usize) {
     let set = |row: &Row| plan.predecessors.get(row[TASK] as usize).copied().unwrap_or(0);
@@ -256,6 +261,26 @@ fn too_soon(random: &mut Random, plan: &Plan, rows: &mut [Row], at: usize) {
     let start = random.pick(&[finish.saturating_sub(1), any]);
     rows.swap(p, at);
     rows[at] = moved(plan, &rows[at], start);
+}
+
+/// Brings a row whose task has a not-before instant here, and its start before that, mostly by one;
+/// or to the first place, with another fault in the last. Without instants, a finish will do.
+fn before_instant(random: &mut Random, plan: &Plan, rows: &mut [Row], at: usize) {
+    let release = |row: &Row| plan.releases.get(row[TASK] as usize).map_or(0, |&r| r.into());
+    let releases = rows.iter().map(release).enumerate();
+    let held: Vec<(usize, u64)> = releases.filter(|(_, release)| *release > 0).collect();
+    if held.is_empty() {
+        return too_soon(random, plan, rows, at);
+    }
+    let (p, release) = random.pick(&held);
+    let any = random.below(release);
+    let other: Option<Damage> = random.pick(&[None, Some(too_soon), Some(crowded)]);
+    let (at, last) = (if other.is_some() { 0 } else { at }, rows.len() - 1);
+    rows.swap(p, at);
+    rows[at] = moved(plan, &rows[at], random.pick(&[release - 1, release - 1, any]));
+    if let Some(damage) = other {
+        damage(random, plan, rows, last);
+    }
 }
 
 /// Brings a row here, and its start to an instant at which others hold all units of its type.

@@ -12,6 +12,8 @@ pub struct Plan {
     pub predecessors: [u64; TASKS],
     /// 0 for a task without one.
     pub deadlines: [u32; TASKS],
+    /// The not-before instant: the earliest at which the task may start.
+    pub releases: [u32; TASKS],
 }
 
 /// The execution order and the one type that each task may use.
@@ -50,6 +52,7 @@ impl Plan {
             worst: [0; PAIRS],
             predecessors: [0; TASKS],
             deadlines: [0; TASKS],
+            releases: [0; TASKS],
         }
     }
 

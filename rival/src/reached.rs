@@ -4,13 +4,15 @@ use crate::cases::*;
 use crate::check::keeps_the_rules;
 use crate::edges;
 use crate::limits::*;
-use crate::lines::{cases_of_line, FIELDS, LINES};
+use crate::lines::{cases_of_line, says_0, FIELDS, LINES};
 use crate::list_cases::*;
 use crate::margins::{margins, with_deadline, Margins};
 use crate::plan::*;
 use crate::reader::read;
+use crate::releases::{cases_of_bound, cases_of_run, cases_of_unsound, cases_of_walk};
+use crate::run::Times;
 use crate::schedule::Record;
-use crate::simulate::worst_times;
+use crate::simulate::{bound, worst_times};
 use crate::state::State;
 use crate::timetable;
 use std::collections::BTreeMap;
@@ -34,15 +36,19 @@ pub const BAD_E: &str = "bad E";
 type Asked = (&'static str, &'static [u64], &'static [Case]);
 
 /// Of the texts of sessions, and of those that a program is given.
-const ASKED_OF_LINES: [Asked; 3] = [
+const ASKED_OF_LINES: [Asked; 4] = [
     (TEXT, &[], &LINES),
     (TEXT, &[], FIELDS.as_flattened()),
     (TEXT, &[], READ_EDGES.as_flattened()),
+    (TEXT, &[], &[RELEASE_OF_0]),
 ];
 
 /// Of sessions, each by itself.
-const ASKED: [Asked; 26] = [
+const ASKED: [Asked; 36] = [
     ("B", &[], &[ADOPTED, BOUND_BELOW, BOUND_EQUAL]),
+    ("B", &[], &[BOUND_IS_SUM]),
+    ("B", &[], &WAITS),
+    ("B", &[], &START_EDGES),
     ("D", &[0, 8, 9, 10, 11], &MARGINS),
     ("D", &[], &FAULTS),
     ("E", &[], &[FIRST_PUT, LAST_PUT]),
@@ -58,9 +64,15 @@ const ASKED: [Asked; 26] = [
     ("L", &[], &[LATER_FAULTS[0].1, LATER_FAULTS[1].1, LATER_FAULTS[2].1]),
     ("M", &[], &TIMES),
     ("M", &[], &TIME_EDGES),
+    ("M", &[], &WAITS),
     ("S", &[], &FAULTS),
+    ("S", &[], &[IDLE]),
     ("T", &[], &[EARLY_REPORT, LONGEST_REPORT, LONGEST_OVERRUN]),
-    ("T", &[], &[UNSOUND_ABOVE, UNSOUND_ABSENT, UNSOUND_LONG]),
+    ("T", &[], &UNSOUND_PLANS),
+    ("T", &[], &EARLY),
+    ("T", &[], &WAITS),
+    ("T", &[], &START_EDGES),
+    ("T", &[], &[IDLE_REPORT]),
     ("T", &[], INSTANTS.as_flattened()),
     ("W", &[], &TIMETABLES),
     ("Y", &[0, 8, 9, 10, 11, 17, 18, 19], &TIMES),
@@ -68,12 +80,27 @@ const ASKED: [Asked; 26] = [
     ("Y", &[], &TIMETABLES),
     ("Z", &[0, 8, 9, 10, 11], &[]),
     (TICKS_OF_Z, &[0, 13, 14, 16], &[EARLY_REPORT]),
+    (TICKS_OF_Z, &[], &WAITS),
 ];
 
 /// Of texts that a program is given.
-const ASKED_OF_TEXTS: [Asked; 2] = [
+const ASKED_OF_TEXTS: [Asked; 4] = [
     (TEXT, &[0, 1, 2, 3, 4, 5, 6, 7, 8, 9, 10, 11], &MARGINS),
-    (TEXT, &[], &[LONGEST_WRITTEN]),
+    (TEXT, &[], &[LONGEST_WRITTEN, BOUND_IS_SUM]),
+    (TEXT, &[], &WAITS),
+    (TEXT, &[], &START_EDGES),
+];
+
+/// What one command never gives.
+const NEVER_GIVEN: [(&str, &[Case]); 8] = [
+    ("B", &NEVER),
+    ("B", &[BOUND_ABOVE_SUM, IDLE_AFTER_ALL]),
+    ("K", &NEVER),
+    ("M", &[IDLE_AFTER_ALL]),
+    ("S", &[IDLE_AFTER_ALL]),
+    ("T", &[IDLE_AFTER_ALL]),
+    (TEXT, &[BOUND_ABOVE_SUM, IDLE_AFTER_ALL]),
+    (TICKS_OF_Z, &[IDLE_AFTER_ALL]),
 ];
 
 /// By the letter of the command, then by case. A case without words is all answers with its number.
@@ -88,7 +115,7 @@ impl Reached {
     /// Notes the cases of a text that was read so.
     pub fn note_text(&mut self, text: &[u8], answer: &Result<(Plan, Constraint), Refusal>) {
         match answer {
-            Ok((plan, _)) => self.note_read(plan),
+            Ok((plan, _)) => self.note_read(text, plan),
             Err(Refusal { number: 1, .. }) => {}
             Err(Refusal { number, place }) => {
                 self.add_cases(TEXT, cases_of_line(text, *number, *place as usize));
@@ -96,22 +123,25 @@ impl Reached {
         }
     }
 
-    /// Notes the cases of the times and deadlines of a plan that was read.
-    fn note_read(&mut self, plan: &Plan) {
-        let [best, worst, deadline] = &READ_EDGES;
+    /// Notes the cases of the times and instants of a plan that was read.
+    fn note_read(&mut self, text: &[u8], plan: &Plan) {
+        let [best, worst, deadline, release] = &READ_EDGES;
         self.add_cases(TEXT, cases_among(&plan.best, &edges::TIMES, best));
         self.add_cases(TEXT, cases_among(&plan.worst, &edges::TIMES, worst));
         self.add_cases(TEXT, cases_among(&plan.deadlines, &edges::DEADLINES, deadline));
+        self.add_cases(TEXT, cases_among(&plan.releases, &edges::RELEASES, release));
+        self.add_cases(TEXT, text.split(|&b| b == b'\n').any(says_0).then_some(RELEASE_OF_0));
     }
 
-    /// Notes a text that a program is given: its refusal, or that of its plan, or its margins and
-    /// its timetable.
+    /// Notes a text that a program is given: its refusal, or that of its plan, or its margins, its
+    /// bound and its timetable.
     pub fn note_program(&mut self, text: &[u8]) {
         let reading = read(text);
         self.note_text(text, &reading);
         let answer = reading.and_then(|(plan, constraint)| {
             let margins = margins(&plan, &constraint)?;
             let table = timetable::text(&plan, &constraint, &worst_times(&plan, &constraint))?;
+            self.note_bound(TEXT, &plan, &constraint, &bound(&plan, &constraint)?);
             Ok((plan, margins, table.len()))
         });
         self.note(TEXT, answer.as_ref().err().map_or(0, |refusal| refusal.number));
@@ -145,11 +175,12 @@ impl Reached {
         self.add_cases(command, words.map(|words| (8, words)));
     }
 
-    /// Notes the case of a state that is refused with 12.
+    /// Notes the cases of a state that is refused with 12.
     pub fn note_unsound(&mut self, command: &'static str, state: &State) {
         let sound = |plan: &Plan| State { plan: plan.clone(), ..state.clone() }.sound();
         let words = only_fault(&state.plan, sound);
         self.add_cases(command, words.map(|words| (12, words)));
+        self.add_cases(command, cases_of_unsound(state));
     }
 
     /// Notes the case of a tick at this instant that is answered so, from the state after it.
@@ -174,7 +205,7 @@ impl Reached {
         let Margins { any, least, margins, .. } = answer;
         let having_it = with_deadline(plan).filter(|&t| margins[t] == *least).count();
         let all_have_one = with_deadline(plan).count() as u64 == plan.tasks;
-        let cases = [
+        let cases = those_that_are(&[
             (!any, NO_DEADLINES),
             (*least < 0, LEAST_BELOW_ZERO),
             (*any && *least == 0, LEAST_ZERO),
@@ -183,8 +214,8 @@ impl Reached {
             (*least > 0 && !all_have_one, LESS_WITHOUT),
             (*least == LEAST_MARGIN, LEAST_OF_ALL),
             (*least == GREATEST_MARGIN, GREATEST_OF_ALL),
-        ];
-        self.add_cases(command, cases.into_iter().filter(|(so, _)| *so).map(|(_, case)| case));
+        ]);
+        self.add_cases(command, cases);
     }
 
     /// Notes the cases of a record that is kept, or not, after so many others.
@@ -247,6 +278,40 @@ impl Reached {
             }
             _ => {}
         }
+    }
+
+    /// Notes the cases of a simulation.
+    pub fn note_run(
+        &mut self,
+        command: &'static str,
+        plan: &Plan,
+        constraint: &Constraint,
+        run: &Times,
+    ) {
+        self.add_cases(command, cases_of_run(plan, constraint, run));
+    }
+
+    /// Notes the cases of the simulation with worst times.
+    pub fn note_bound(
+        &mut self,
+        command: &'static str,
+        plan: &Plan,
+        constraint: &Constraint,
+        run: &Times,
+    ) {
+        self.note_run(command, plan, constraint, run);
+        self.add_cases(command, cases_of_bound(plan, constraint, run.response));
+    }
+
+    /// Notes the cases of a walk at this instant that started these tasks, from the state after it
+    /// or a later one.
+    pub fn note_walk(&mut self, command: &'static str, state: &State, instant: u32, started: u64) {
+        self.add_cases(command, cases_of_walk(state, instant, started));
+    }
+
+    /// Notes the case of a tick that is refused with 14.
+    pub fn note_stranger(&mut self, command: &'static str, state: &State) {
+        self.add_cases(command, (state.running() == 0).then_some(IDLE_REPORT));
     }
 
     /// Notes the cases of an accepted tick to this instant, from the state after it or a later one.
@@ -314,7 +379,7 @@ impl Reached {
     }
 
     /// Each refusal that no command gave, what was asked of one command and not given by it, the
-    /// number that no refusal has, if one was given with it, and what an adopted list never gives.
+    /// number that no refusal has, if one was given with it, and what one command never gives.
     pub fn faults(&self) -> Vec<String> {
         let used = (1..=LAST).filter(|&n| n != UNUSED);
         let by_none = used.filter(|&n| self.total(n) == 0).map(|n| format!("never reached: {n}"));
@@ -323,15 +388,16 @@ impl Reached {
         by_none.chain(by_one).chain(unused).chain(self.wrongly_given()).collect()
     }
 
-    /// What was asked of the texts for a program and not met in them.
+    /// What was asked of the texts for a program and not met in them, and what is never given.
     pub fn faults_of_texts(&self) -> Vec<String> {
-        [self.never_given(&ASKED_OF_LINES), self.never_given(&ASKED_OF_TEXTS)].concat()
+        let asked = [self.never_given(&ASKED_OF_LINES), self.never_given(&ASKED_OF_TEXTS)].concat();
+        asked.into_iter().chain(self.wrongly_given()).collect()
     }
 
     fn wrongly_given(&self) -> Vec<String> {
-        let by_one = ["B", "K"].into_iter().flat_map(|command| {
-            let given = NEVER.into_iter().filter(|&case| self.times_of_case(command, case) > 0);
-            given.map(move |case| format!("given: {} by {command}", name(case)))
+        let by_one = NEVER_GIVEN.into_iter().flat_map(|(command, never)| {
+            let given = never.iter().filter(move |&&case| self.times_of_case(command, case) > 0);
+            given.map(move |&case| format!("given: {} by {command}", name(case)))
         });
         by_one.collect()
     }
@@ -346,21 +412,16 @@ impl Reached {
     }
 }
 
-/// The cases of those edges that are among the numbers.
-fn cases_among<'a, const N: usize>(
-    numbers: &'a [u32],
-    edges: &'a [u32; N],
-    cases: &'a [Case; N],
-) -> impl Iterator<Item = Case> + 'a {
-    let edges = edges.iter().zip(cases);
-    edges.filter(|(edge, _)| numbers.contains(edge)).map(|(_, case)| *case)
-}
-
 /// Takes one sort of fault away.
 type Mend = fn(&mut Plan);
 
-const MENDS: [(Mend, &str); 3] =
-    [(lower_deadlines, ABOVE), (drop_deadlines, ABSENT), (shorten_times, LONG)];
+const MENDS: [(Mend, &str); 5] = [
+    (lower_deadlines, ABOVE),
+    (drop_deadlines, ABSENT),
+    (shorten_times, LONG),
+    (lower_releases, RELEASED_ABOVE),
+    (drop_releases, RELEASED_ABSENT),
+];
 
 /// What alone is wrong with a plan: it is not right, and is once that is mended.
 fn only_fault(plan: &Plan, right: impl Fn(&Plan) -> bool) -> Option<&'static str> {
@@ -375,18 +436,22 @@ fn only_fault(plan: &Plan, right: impl Fn(&Plan) -> bool) -> Option<&'static str
     MENDS.iter().find(|(mend, _)| right(&mended(mend))).map(|(_, words)| *words)
 }
 
-/// Those one above the latest.
 fn lower_deadlines(plan: &mut Plan) {
     lower(&mut plan.deadlines, LATEST_DEADLINE);
 }
 
-/// Those of absent tasks, if in range.
-fn drop_deadlines(plan: &mut Plan) {
-    let absent = plan.deadlines.iter_mut().skip(plan.tasks as usize);
-    absent.filter(|deadline| **deadline <= LATEST_DEADLINE).for_each(|deadline| *deadline = 0);
+fn lower_releases(plan: &mut Plan) {
+    lower(&mut plan.releases, LATEST_RELEASE);
 }
 
-/// Those one above the longest.
+fn drop_deadlines(plan: &mut Plan) {
+    drop_absent(&mut plan.deadlines, plan.tasks, LATEST_DEADLINE);
+}
+
+fn drop_releases(plan: &mut Plan) {
+    drop_absent(&mut plan.releases, plan.tasks, LATEST_RELEASE);
+}
+
 fn shorten_times(plan: &mut Plan) {
     lower(&mut plan.best, LONGEST_TIME);
     lower(&mut plan.worst, LONGEST_TIME);
@@ -395,6 +460,12 @@ fn shorten_times(plan: &mut Plan) {
 /// Makes each number that is one above the greatest that one.
 fn lower(numbers: &mut [u32], greatest: u32) {
     numbers.iter_mut().filter(|n| **n == greatest + 1).for_each(|n| *n = greatest);
+}
+
+/// Makes each number of an absent task 0, if it is in range.
+fn drop_absent(numbers: &mut [u32], tasks: u64, greatest: u32) {
+    let absent = numbers.iter_mut().skip(tasks as usize);
+    absent.filter(|n| **n <= greatest).for_each(|n| *n = 0);
 }
 
 /// Best and worst of a task's chosen type. Only for accepted plans and constraints.

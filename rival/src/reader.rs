@@ -8,16 +8,20 @@ struct Reading {
     constraint: Constraint,
     kind: usize,
     with_times: u64,
+    /// The tasks that have an N line, which may say 0.
+    with_release: u64,
     in_order: u64,
 }
 
 /// The letters of the lines and their counts of fields, in the order in which lines may follow each
 /// other.
-pub const FORMS: [(u8, usize); 5] = [(b'U', 2), (b'T', 4), (b'A', 2), (b'D', 2), (b'C', 2)];
+pub const FORMS: [(u8, usize); 6] =
+    [(b'U', 2), (b'T', 4), (b'A', 2), (b'D', 2), (b'N', 2), (b'C', 2)];
 const U: usize = 0;
 const T: usize = 1;
 const A: usize = 2;
 const D: usize = 3;
+const N: usize = 4;
 
 pub fn read(text: &[u8]) -> Result<(Plan, Constraint), Refusal> {
     if text.len() > LONGEST_TEXT {
@@ -28,6 +32,7 @@ pub fn read(text: &[u8]) -> Result<(Plan, Constraint), Refusal> {
         constraint: Constraint::zero(),
         kind: U,
         with_times: 0,
+        with_release: 0,
         in_order: 0,
     };
     let mut rest = text;
@@ -75,6 +80,7 @@ pub fn in_range(kind: usize, f: &[usize]) -> bool {
         T => is_task(f[0]) && is_type(f[1]) && is_time(f[2]) && is_time(f[3]),
         A => is_task(f[0]) && is_task(f[1]),
         D => is_task(f[0]) && is_deadline(f[1]),
+        N => is_task(f[0]) && f[1] <= LATEST_RELEASE as usize,
         _ => is_task(f[0]) && is_type(f[1]),
     }
 }
@@ -124,6 +130,7 @@ impl Reading {
             T => self.plan.best[pair(f[0], f[1])] != 0,
             A => self.plan.predecessors[f[1]] >> f[0] & 1 == 1,
             D => self.plan.deadlines[f[0]] != 0,
+            N => self.with_release >> f[0] & 1 == 1,
             _ => self.in_order >> f[0] & 1 == 1,
         }
     }
@@ -142,6 +149,10 @@ impl Reading {
             }
             A => self.plan.predecessors[f[1]] |= 1 << f[0],
             D => self.plan.deadlines[f[0]] = f[1] as u32,
+            N => {
+                self.plan.releases[f[0]] = f[1] as u32;
+                self.with_release |= 1 << f[0];
+            }
             _ => {
                 let p = self.constraint.length as usize;
                 self.constraint.task[p] = f[0] as u64;

@@ -27,9 +27,15 @@ impl Times {
     }
 }
 
-/// The tasks that the walk starts, given how many of the order have started
+/// The tasks that the walk starts at this instant, given how many of the order have started
 /// and which of those are finished. Only for accepted plans and constraints.
-pub fn walk(plan: &Plan, constraint: &Constraint, started: u64, finished: u64) -> u64 {
+pub fn walk(
+    plan: &Plan,
+    constraint: &Constraint,
+    instant: u32,
+    started: u64,
+    finished: u64,
+) -> u64 {
     let mut busy = [0u32; TYPES];
     for p in 0..started as usize {
         if finished >> constraint.task[p] & 1 == 0 {
@@ -40,7 +46,8 @@ pub fn walk(plan: &Plan, constraint: &Constraint, started: u64, finished: u64) -
     for p in started as usize..plan.tasks as usize {
         let (task, kind) = (constraint.task[p] as usize, constraint.kind[p] as usize);
         let waiting = plan.predecessors[task] & !finished != 0;
-        if waiting || busy[kind] >= plan.units[kind] {
+        let too_soon = instant < plan.releases[task];
+        if waiting || too_soon || busy[kind] >= plan.units[kind] {
             break;
         }
         busy[kind] += 1;
@@ -50,26 +57,30 @@ pub fn walk(plan: &Plan, constraint: &Constraint, started: u64, finished: u64) -
 }
 
 /// The run with one time for each task, by task number. Only for accepted plans and constraints.
-/// Between two finishes no walk starts anything, so the instant moves on from finish to finish.
+/// After 0 a walk starts something only where a task finishes or a not-before instant comes, so the
+/// instant moves on from one of these to the next.
 pub fn run(plan: &Plan, constraint: &Constraint, times: &[u32; TASKS]) -> Times {
     let mut result = Times::zero();
     let (mut instant, mut started, mut running, mut finished) = (0u32, 0u64, 0u64, 0u64);
     loop {
-        let just_started = walk(plan, constraint, started, finished);
+        let just_started = walk(plan, constraint, instant, started, finished);
         for t in members(just_started) {
             result.starts[t] = instant;
             result.finishes[t] = instant + times[t];
+            result.response = result.response.max(result.finishes[t]);
         }
         started += just_started.count_ones() as u64;
         running |= just_started;
 
-        let next = members(running).map(|t| result.finishes[t]).min();
+        let unstarted = &constraint.task[started as usize..plan.tasks as usize];
+        let releases = unstarted.iter().map(|&t| plan.releases[t as usize]);
+        let to_come = releases.filter(|&release| release > instant);
+        let next = members(running).map(|t| result.finishes[t]).chain(to_come).min();
         let Some(next) = next else { return result };
         let up = members(running).filter(|&t| result.finishes[t] == next);
         let up = up.fold(0, |set, t| set | 1 << t);
         running &= !up;
         finished |= up;
         instant = next;
-        result.response = next;
     }
 }

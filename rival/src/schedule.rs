@@ -22,10 +22,10 @@ impl Record {
 type Fault = fn(&Plan, &[Record], usize) -> bool;
 
 /// Each number is tried over the whole list before the next.
-const FAULTS: [(u64, [Fault; 2]); 3] = [
-    (20, [has_an_absent_task, repeats_a_task]),
-    (21, [has_an_unusable_type, has_another_finish]),
-    (22, [starts_too_soon, finds_no_unit]),
+const FAULTS: [(u64, &[Fault]); 3] = [
+    (20, &[has_an_absent_task, repeats_a_task]),
+    (21, &[has_an_unusable_type, has_another_finish]),
+    (22, &[starts_before_a_finish, starts_before_its_instant, finds_no_unit]),
 ];
 
 /// The constraint that a list gives for a plan.
@@ -48,8 +48,8 @@ pub fn adopt(plan: &Plan, records: &[Record]) -> Result<Constraint, Refusal> {
 
 /// Whether the record at this place is refused with this number, 20, 21 or 22.
 pub fn is_faulty(plan: &Plan, records: &[Record], number: u64, place: usize) -> bool {
-    let faults = FAULTS.iter().filter(|(of, _)| *of == number).flat_map(|(_, faults)| faults);
-    faults.into_iter().any(|fault| fault(plan, records, place))
+    let mut faults = FAULTS.iter().filter(|(of, _)| *of == number).flat_map(|(_, faults)| *faults);
+    faults.any(|fault| fault(plan, records, place))
 }
 
 pub fn has_an_absent_task(plan: &Plan, records: &[Record], place: usize) -> bool {
@@ -74,8 +74,14 @@ pub fn has_another_finish(plan: &Plan, records: &[Record], place: usize) -> bool
 }
 
 /// The start is before a predecessor's finish.
-pub fn starts_too_soon(plan: &Plan, records: &[Record], place: usize) -> bool {
+pub fn starts_before_a_finish(plan: &Plan, records: &[Record], place: usize) -> bool {
     latest_finish_before(plan, records, place).is_some_and(|finish| records[place].start < finish)
+}
+
+/// The start is before the task's not-before instant.
+pub fn starts_before_its_instant(plan: &Plan, records: &[Record], place: usize) -> bool {
+    let Record { task, start, .. } = records[place];
+    plan.releases.get(task as usize).is_some_and(|&release| start < release)
 }
 
 /// At the start more tasks hold the type, this one among them, than there are units.

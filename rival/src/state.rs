@@ -43,8 +43,15 @@ impl State {
         self.started_set() & !self.finished
     }
 
+    /// The next unstarted task of the order. Only if no more are started than there are tasks.
+    pub fn next(&self) -> Option<usize> {
+        let order = &self.constraint.task[..self.plan.tasks as usize];
+        order.get(self.started as usize).map(|&t| t as usize)
+    }
+
     fn walk(&mut self) -> u64 {
-        let just_started = walk(&self.plan, &self.constraint, self.started, self.finished);
+        let State { plan, constraint, instant, started, finished, .. } = self;
+        let just_started = walk(plan, constraint, *instant, *started, *finished);
         for t in members(just_started) {
             self.starts[t] = self.instant;
         }
@@ -77,7 +84,10 @@ impl State {
         let (start, finish) = (self.starts[t], self.finishes[t]);
         let has_started = self.started_set() >> t & 1 == 1;
         let has_finished = self.finished >> t & 1 == 1;
-        let start_right = if has_started { start <= self.instant } else { start == 0 };
+        let start_right = match has_started {
+            true => self.plan.releases[t] <= start && start <= self.instant,
+            false => start == 0,
+        };
         let finish_right = match has_finished {
             true => start < finish && finish <= self.instant,
             false => finish == 0,

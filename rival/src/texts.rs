@@ -5,6 +5,7 @@ use crate::limits::*;
 use crate::plan::{pair, Constraint, Plan};
 use crate::random::Random;
 use crate::reader::read;
+use crate::run::Times;
 use crate::simulate::bound;
 
 /// A text: about half are sound, the others are refused for one fault or damaged; now and then one
@@ -17,11 +18,12 @@ pub fn text(random: &mut Random) -> Vec<u8> {
         return join(&extreme_lines(random));
     }
     let mut lines = sound_lines(random);
-    match random.below(26) {
-        0..=2 => refused_deadline(random, &mut lines),
-        3..=5 => refused_plan(random, &mut lines),
-        6..=9 => refused_field(random, &mut lines),
-        10..=13 => return damaged_text(random, lines),
+    match random.below(29) {
+        0..=2 => refused_instant(random, &mut lines, 'D'),
+        3..=5 => refused_instant(random, &mut lines, 'N'),
+        6..=8 => refused_plan(random, &mut lines),
+        9..=13 => refused_field(random, &mut lines),
+        14..=17 => return damaged_text(random, lines),
         _ => {}
     }
     join(&lines)
@@ -97,22 +99,42 @@ pub fn sound_lines(random: &mut Random) -> Vec<String> {
     lines.extend(arrows);
     let choices = order.iter().map(|t| format!("C\t{t}\t{}", chosen[*t as usize]));
     let choices: Vec<String> = choices.collect();
-    let deadlines = deadlines(random, &[&lines[..], &choices].concat());
+    let releases = releases(random, &[&lines[..], &choices].concat());
+    let deadlines = deadlines(random, &[&lines[..], &releases, &choices].concat());
     lines.extend(deadlines);
+    lines.extend(releases);
     lines.extend(choices);
     lines
+}
+
+/// The run with worst times of lines that the check takes, and the number of their tasks.
+fn worst_run(lines: &[String]) -> (Times, usize) {
+    let run = read(&join(lines)).and_then(|(plan, constraint)| {
+        Ok((bound(&plan, &constraint)?, plan.tasks as usize))
+    });
+    run.expect("a plan that is accepted")
+}
+
+/// N lines for sound lines without any: mostly of none, otherwise of some or of all tasks.
+fn releases(random: &mut Random, lines: &[String]) -> Vec<String> {
+    let rarity = random.pick(&[u64::MAX, u64::MAX, u64::MAX, 8, 3, 1]);
+    let (run, tasks) = worst_run(lines);
+    let releases = inputs::releases(random, &run.starts[..tasks]);
+    some_lines(random, 'N', &releases, rarity)
 }
 
 /// D lines for sound lines without any: of all tasks, of some or of none.
 fn deadlines(random: &mut Random, lines: &[String]) -> Vec<String> {
     let rarity = random.pick(&[1, 1, 2, 2, 5, u64::MAX]);
-    let run = read(&join(lines)).and_then(|(plan, constraint)| {
-        let run = bound(&plan, &constraint)?;
-        Ok(run.finishes[..plan.tasks as usize].to_vec())
-    });
-    let deadlines = inputs::deadlines(random, &run.expect("a plan that is accepted"));
-    let mut lines: Vec<String> =
-        deadlines.iter().enumerate().map(|(t, deadline)| format!("D\t{t}\t{deadline}")).collect();
+    let (run, tasks) = worst_run(lines);
+    let deadlines = inputs::deadlines(random, &run.finishes[..tasks]);
+    some_lines(random, 'D', &deadlines, rarity)
+}
+
+/// Lines of task and instant for some tasks.
+fn some_lines(random: &mut Random, letter: char, instants: &[u64], rarity: u64) -> Vec<String> {
+    let line = |(t, instant): (usize, &u64)| format!("{letter}\t{t}\t{instant}");
+    let mut lines: Vec<String> = instants.iter().enumerate().map(line).collect();
     lines.retain(|_| random.once_in(rarity));
     if random.once_in(2) {
         random.shuffle(&mut lines);
@@ -121,7 +143,8 @@ fn deadlines(random: &mut Random, lines: &[String]) -> Vec<String> {
 }
 
 /// As many tasks as may be, one after the other: the last as late as may be with the earliest
-/// deadline, or the first as early as may be with the latest.
+/// deadline, or the first as early as may be with the latest. The first of the order may start
+/// only when the latest not-before instant comes, or at once.
 fn extreme_lines(random: &mut Random) -> Vec<String> {
     let mut order: Vec<usize> = (0..TASKS).collect();
     random.shuffle(&mut order);
@@ -132,6 +155,9 @@ fn extreme_lines(random: &mut Random) -> Vec<String> {
     let mut lines = vec!["U\t0\t1".to_string()];
     lines.extend((0..TASKS).map(|t| format!("T\t{t}\t0\t1\t{worst}")));
     lines.push(format!("D\t{task}\t{deadline}"));
+    if deadline == 1 && !random.once_in(4) {
+        lines.push(format!("N\t{}\t{LATEST_RELEASE}", order[0]));
+    }
     lines.extend(order.iter().map(|t| format!("C\t{t}\t0")));
     lines
 }
@@ -149,33 +175,43 @@ fn arrows(random: &mut Random, order: &[u64]) -> Vec<String> {
     arrows
 }
 
-/// Makes sound lines faulty by one D line, mostly where D lines stand.
-fn refused_deadline(random: &mut Random, lines: &mut Vec<String>) {
+/// Makes sound lines faulty by one D or N line, mostly where such lines stand.
+fn refused_instant(random: &mut Random, lines: &mut Vec<String>, letter: char) {
     let Ok((plan, _)) = read(&join(lines)) else { return };
-    let first_of = |letter| lines.iter().position(|line| line.starts_with(letter));
-    let end = first_of('C').unwrap_or(lines.len());
-    let others = first_of('D').unwrap_or(end);
+    let first_of = |letters: &[char]| lines.iter().position(|line| line.starts_with(letters));
+    let end = first_of(if letter == 'D' { &['N', 'C'] } else { &['C'] }).unwrap_or(lines.len());
+    let others = first_of(&[letter]).unwrap_or(end);
     let task = random.below(plan.tasks);
-    let [line, again] = [0; 2].map(|_| format!("D\t{task}\t{}", inputs::deadline(random, 1)));
+    let [line, again] = [0; 2].map(|_| format!("{letter}\t{task}\t{}", instant(random, letter)));
     match random.below(8) {
         // Two of one task.
         0 => drop(lines.splice(end..end, [line, again])),
-        // After a C line.
+        // After a line of a later kind.
         1 => lines.insert(random.from(end as u64 + 1, lines.len() as u64) as usize, line),
-        // Before a line of an earlier kind.
+        // Before a line of an earlier kind, often of the one just before.
         2 => {
-            let other = lines[random.below(others as u64) as usize].clone();
+            let any = random.below(others as u64) as usize;
+            let other = lines[random.pick(&[any, others - 1])].clone();
             let first = (others == end).then_some(line);
             drop(lines.splice(end..end, first.into_iter().chain([other])));
         }
         _ => {
             let anywhere = random.below(lines.len() as u64) as usize;
             let at = random.pick(&[end, end, end, end, anywhere]);
-            lines.insert(at, faulty_deadline(random, plan.tasks));
+            lines.insert(at, faulty_instant(random, letter, plan.tasks));
             if random.once_in(3) {
                 lines.insert(plan.types as usize, last_task());
             }
         }
+    }
+}
+
+/// One that a line with the letter D or N may have; often 0 if it may be.
+fn instant(random: &mut Random, letter: char) -> u64 {
+    match letter {
+        'D' => inputs::deadline(random, 1),
+        _ if random.once_in(2) => 0,
+        _ => inputs::release(random, 0),
     }
 }
 
@@ -184,29 +220,32 @@ fn last_task() -> String {
     format!("T\t{}\t0\t1\t1", TASKS - 1)
 }
 
-/// A D line with another form, a number out of range or an absent task.
-fn faulty_deadline(random: &mut Random, tasks: u64) -> String {
-    let (most_tasks, last) = (TASKS as u64, u64::from(LATEST_DEADLINE));
-    let (task, deadline) = (random.below(tasks), inputs::deadline(random, 1));
+/// A D or N line with another form, a number out of range or an absent task.
+fn faulty_instant(random: &mut Random, letter: char, tasks: u64) -> String {
+    let most_tasks = TASKS as u64;
+    let last = u64::from(if letter == 'D' { LATEST_DEADLINE } else { LATEST_RELEASE });
+    let (task, good) = (random.below(tasks), instant(random, letter));
     let greatest = "9".repeat(DIGITS).parse().unwrap_or(last + 1);
+    let line = |task: u64, instant: u64| format!("{letter}\t{task}\t{instant}");
     match random.below(5) {
-        0 => odd_deadline(random),
-        1 => format!("D\t{}\t{deadline}", random.pick(&[most_tasks, most_tasks + 1, greatest])),
-        2 => format!("D\t{task}\t0"),
-        3 => format!("D\t{task}\t{}", random.pick(&[last + 1, last + 2, greatest])),
-        _ => format!("D\t{}\t{deadline}", random.from(tasks.min(most_tasks - 1), most_tasks - 1)),
+        0 => odd_instant(random, letter),
+        1 => line(random.pick(&[most_tasks, most_tasks + 1, greatest]), good),
+        2 if letter == 'D' => line(task, 0),
+        2 | 3 => line(task, random.pick(&[last + 1, last + 2, greatest])),
+        _ => line(random.from(tasks.min(most_tasks - 1), most_tasks - 1), good),
     }
 }
 
-/// A line with the letter D that has not the form of a D line.
-fn odd_deadline(random: &mut Random) -> String {
-    let lines = [
-        "D", "D\t", "D\t0", "D\t0\t", "D\t\t1", "D\t0\t1\t", "D\t0\t1\t1", "D\t00\t1", "D\t0\t01",
-        "D\t0\t-1", "D\t0\t+1", "D\t0\t1 ", "D\t0\t1\r", "D 0 1", "D\t0 1", "D0\t1", "DD\t0\t1",
+/// A line with the letter D or N that has not the form of such a line.
+fn odd_instant(random: &mut Random, letter: char) -> String {
+    let rests = [
+        "", "\t", "\t0", "\t0\t", "\t\t1", "\t0\t1\t", "\t0\t1\t1", "\t00\t1", "\t0\t01", "\t0\t00",
+        "\t0\t-1", "\t0\t+1", "\t0\t1 ", "\t0\t1\r", " 0 1", "\t0 1", "0\t1",
     ];
-    let long = format!("D\t0\t1{}", "0".repeat(DIGITS));
-    let at = random.below(lines.len() as u64 + 1) as usize;
-    lines.get(at).map_or(long, |line| line.to_string())
+    let (twice, long) = (format!("{letter}\t0\t1"), format!("\t0\t1{}", "0".repeat(DIGITS)));
+    let others = [twice.as_str(), &long];
+    let rests: Vec<&str> = rests.into_iter().chain(others).collect();
+    format!("{letter}{}", random.pick(&rests))
 }
 
 /// Makes sound lines faulty by a line of any kind in which one field has a digit too many, begins
@@ -216,20 +255,22 @@ fn refused_field(random: &mut Random, lines: &mut Vec<String>) {
     lines.insert(random.from(0, lines.len() as u64) as usize, line);
 }
 
-/// A line in which best, worst or deadline is one above what it may be.
+/// A line in which best, worst or instant is one above what it may be.
 fn one_above(random: &mut Random) -> String {
     let (longest, above) = (LONGEST_TIME, LONGEST_TIME + 1);
     let pairs = [(above, longest), (above, 1), (1, above), (longest, above)];
     let (best, worst) = random.pick(&pairs);
-    match random.once_in(3) {
-        true => format!("D\t0\t{}", LATEST_DEADLINE + 1),
-        false => format!("T\t0\t0\t{best}\t{worst}"),
+    match random.below(4) {
+        0 => format!("D\t0\t{}", LATEST_DEADLINE + 1),
+        1 => format!("N\t0\t{}", LATEST_RELEASE + 1),
+        _ => format!("T\t0\t0\t{best}\t{worst}"),
     }
 }
 
 /// A line in which one field has all digits that a field may have, or one more.
 fn wide_field(random: &mut Random) -> String {
-    let line = random.pick(&["U\t0\t1", "T\t0\t0\t1\t1", "A\t0\t1", "D\t0\t1", "C\t0\t0"]);
+    let lines = ["U\t0\t1", "T\t0\t0\t1\t1", "A\t0\t1", "D\t0\t1", "N\t0\t0", "C\t0\t0"];
+    let line = random.pick(&lines);
     let mut parts: Vec<String> = line.split('\t').map(str::to_string).collect();
     let at = random.from(1, parts.len() as u64 - 1) as usize;
     let (above, wider) = (u64::from(LONGEST_TIME) + 1, 10u64.pow(DIGITS as u32));
@@ -260,7 +301,7 @@ fn refused_plan(random: &mut Random, lines: &mut Vec<String>) {
         // The last of the order is its own predecessor: that is not read.
         _ => {
             let later = constraint.task[random.from(p as u64, plan.tasks - 1) as usize];
-            let end = lines.iter().position(|line| line.starts_with(['D', 'C']));
+            let end = lines.iter().position(|line| line.starts_with(['D', 'N', 'C']));
             lines.insert(end.unwrap_or(start), format!("A\t{later}\t{task}"));
         }
     }
@@ -298,7 +339,7 @@ fn damage_lines(random: &mut Random, lines: &mut Vec<String>) {
 
 /// The lines of one kind: the first, and the one after the last.
 fn random_block(random: &mut Random, lines: &[String]) -> (usize, usize) {
-    let letter = random.pick(&["U", "T", "A", "D", "C"]);
+    let letter = random.pick(&["U", "T", "A", "D", "N", "C"]);
     let of_kind = |line: &String| line.starts_with(letter);
     match lines.iter().position(of_kind) {
         Some(first) => (first, lines.iter().rposition(of_kind).unwrap_or(first) + 1),
@@ -325,7 +366,7 @@ fn damage_field(random: &mut Random, line: Option<&mut String>) {
     let at = random.below(parts.len() as u64) as usize;
     parts[at] = match random.below(4) {
         0 | 1 => odd_field(random),
-        2 if at == 0 => random.pick(&["U", "T", "A", "D", "C", "R", "u", "TT"]).to_string(),
+        2 if at == 0 => random.pick(&["U", "T", "A", "D", "N", "C", "R", "u", "TT"]).to_string(),
         _ => random.below(9).to_string(),
     };
     *line = parts.join("\t");
@@ -347,7 +388,7 @@ fn damage_bytes(random: &mut Random, bytes: &mut Vec<u8>) {
         return;
     }
     let at = random.below(bytes.len() as u64) as usize;
-    let byte = random.pick(b"0123456789\t\n\rUTADC x#\x00\xff");
+    let byte = random.pick(b"0123456789\t\n\rUTADNC x#\x00\xff");
     match random.below(5) {
         0 => bytes[at] = byte,
         1 => bytes.insert(at, byte),
@@ -363,10 +404,12 @@ fn long_text(random: &mut Random) -> Vec<u8> {
     if random.once_in(2) {
         return text_of_length(length);
     }
-    let deadline = |t| format!("D\t{t}\t{}\n", inputs::deadline(random, 1));
-    let deadlines: String = (0..TASKS).map(deadline).collect();
-    let mut text = text_of_length(length - deadlines.len());
-    text.extend(deadlines.bytes());
+    let mut lines = |letter: char| -> String {
+        (0..TASKS).map(|t| format!("{letter}\t{t}\t{}\n", instant(random, letter))).collect()
+    };
+    let lines = lines('D') + &lines('N');
+    let mut text = text_of_length(length - lines.len());
+    text.extend(lines.bytes());
     text
 }
 

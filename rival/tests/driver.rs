@@ -169,7 +169,7 @@ fn deadlines_of_plan_and_state() {
 
 #[test]
 fn bad_deadlines() {
-    for line in ["D\t", "D\t0", "d", "DD", "P\t14\t64\t0", "R\t14\t64\t0", "P\t14\t0", "P\t15\t0\t0", "R\t15\t0\t0"] {
+    for line in ["D\t", "D\t0", "d", "DD", "P\t14\t64\t0", "R\t14\t64\t0", "P\t14\t0", "P\t16\t0\t0", "R\t16\t0\t0"] {
         assert_eq!(answer(line), "bad");
     }
     for line in ["P\t14\t0\t4294967296", "R\t14\t0\t4294967296", "P\t13\t0\t0", "P\t14\t0\t-1"] {
@@ -270,7 +270,7 @@ fn cases_of_margins() {
     assert_eq!(margin_cases(&[3, 3, 3]), [LEAST_BELOW_ZERO]);
 }
 
-/// All tasks one after the other, with these worst times, and one D line.
+/// All tasks one after the other, with these worst times, and D and N lines.
 #[test]
 fn cases_of_the_ends() {
     let case = |worst: u32, line: &str| {
@@ -281,10 +281,14 @@ fn cases_of_the_ends() {
         assert_eq!(reached.times(TEXT, 0), 1);
         [LEAST_OF_ALL, GREATEST_OF_ALL].map(|case| reached.times_of_case(TEXT, case))
     };
-    assert_eq!(case(LONGEST_TIME, "D\t63\t1"), [1, 0]);
-    assert_eq!(case(LONGEST_TIME, "D\t63\t2"), [0, 0]);
-    assert_eq!(case(LONGEST_TIME - 1, "D\t63\t1"), [0, 0]);
+    let late = |deadline: u32, release: u32| format!("D\t63\t{deadline}\nN\t0\t{release}");
+    assert_eq!(case(LONGEST_TIME, &late(1, LATEST_RELEASE)), [1, 0]);
+    assert_eq!(case(LONGEST_TIME, &late(2, LATEST_RELEASE)), [0, 0]);
+    assert_eq!(case(LONGEST_TIME, &late(1, LATEST_RELEASE - 1)), [0, 0]);
+    assert_eq!(case(LONGEST_TIME - 1, &late(1, LATEST_RELEASE)), [0, 0]);
+    assert_eq!(case(LONGEST_TIME, "D\t63\t1"), [0, 0]);
     assert_eq!(case(1, &format!("D\t0\t{LATEST}")), [0, 1]);
+    assert_eq!(case(1, &format!("D\t0\t{LATEST}\nN\t0\t1")), [0, 0]);
     assert_eq!(case(1, &format!("D\t0\t{}", LATEST - 1)), [0, 0]);
     assert_eq!(case(1, &format!("D\t1\t{LATEST}")), [0, 0]);
 }
@@ -309,7 +313,7 @@ fn cases_of_wrong_deadlines() {
 }
 
 #[test]
-fn cases_of_d_lines() {
+fn cases_of_d_and_n_lines() {
     let case = |lines: &str| {
         let text = format!("U\t0\t1\nT\t0\t0\t1\t1\n{lines}\n");
         let reached = session(format!("{}\n{text}", text.len()).as_bytes()).reached;
@@ -328,9 +332,25 @@ fn cases_of_d_lines() {
     for other in ["D\t0\t1", "A\t0", "A\t64\t0", "C\t1\t0", "C\t0\t0\nC\t0\t0", "C\t0\t0\nU\t1\t1"] {
         assert_eq!(case(other), []);
     }
+    assert_eq!(case("N\t0"), [N_LINE_FORM]);
+    assert_eq!(case("N\t64\t0"), [N_LINE_TASK]);
+    let above = LATEST_RELEASE + 1;
+    assert_eq!(case(&format!("N\t0\t{above}")), [N_LINE_ABOVE, N_LINE_ONE_ABOVE]);
+    assert_eq!(case(&format!("N\t0\t{}", above + 1)), [N_LINE_ABOVE]);
+    assert_eq!(case("C\t0\t0\nN\t0\t1"), [N_LINE_KIND]);
+    assert_eq!(case("N\t1\t1"), [N_LINE_UNKNOWN]);
+    assert_eq!(case("N\t0\t1\nN\t0\t0"), [N_LINE_AGAIN]);
+    assert_eq!(case("N\t0\t0\nN\t0\t1"), [N_LINE_AFTER_0]);
+    assert_eq!(case("N\t0\t0\nN\t0\t0"), [N_LINE_AFTER_0]);
+    assert_eq!(case("N\t0\t1\nU\t1\t1"), [AFTER_N_LINE]);
+    assert_eq!(case("D\t0\t1\nA\t0\t1"), [AFTER_D_LINE]);
+    assert_eq!(case("N\t0\t1\nD\t0\t1"), [D_LINE_KIND, AFTER_N_LINE, D_AFTER_N_LINE]);
+    for other in ["N\t0\t1", "N\t0\t0", "D\t0\t1\nN\t0\t1", "N\t0\t1\nC\t0\t0"] {
+        assert_eq!(case(other), []);
+    }
 }
 
-/// All margins are asked of `D`, all refusals by a D line of the text.
+/// All margins are asked of `D`, all refusals by a D or N line of the text.
 #[test]
 fn cases_that_are_asked() {
     let faults = Reached::default().faults();

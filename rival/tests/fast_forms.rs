@@ -48,6 +48,7 @@ fn read() {
     met.cases(TEXT, &LINES);
     met.cases(TEXT, FIELDS.as_flattened());
     met.cases(TEXT, cases::READ_EDGES.as_flattened());
+    met.cases(TEXT, &[cases::RELEASE_OF_0]);
 }
 
 /// Puts something else in one place.
@@ -57,7 +58,7 @@ fn damage(random: &mut Random, plan: &mut Plan, constraint: &mut Constraint) {
     let reach = if random.once_in(4) { most } else { plan.tasks.clamp(1, most) };
     let (p, q) = (random.below(reach) as usize, random.below(reach) as usize);
     let kind = random.below(TYPES as u64) as usize;
-    match random.below(16) {
+    match random.below(18) {
         0 => plan.types = value,
         1 => plan.tasks = value,
         2 => plan.units[kind] = value as u32,
@@ -76,6 +77,8 @@ fn damage(random: &mut Random, plan: &mut Plan, constraint: &mut Constraint) {
         12 => constraint.kind[p] = kind as u64,
         13 => plan.deadlines[p] = value as u32,
         14 => plan.deadlines[random.below(most) as usize] = 1,
+        15 => plan.releases[p] = value as u32,
+        16 => plan.releases[random.below(most) as usize] = 1,
         _ => {
             constraint.task.swap(p, q);
             constraint.kind.swap(p, q);
@@ -197,7 +200,7 @@ fn alter(random: &mut Random, state: &mut State) {
     let t = random.below(state.plan.tasks + 1) as usize % TASKS;
     let kind = random.below(state.plan.types) as usize;
     let near = (state.instant + 2).saturating_sub(random.below(5) as u32);
-    match random.below(8) {
+    match random.below(9) {
         0 => state.instant = near,
         1 => move_to(state, random.pick(&edges::INSTANTS)),
         2 => state.started = (state.started + 1).saturating_sub(2 * random.below(2)),
@@ -205,6 +208,7 @@ fn alter(random: &mut Random, state: &mut State) {
         4 => state.starts[t] = near,
         5 => state.finishes[t] = near,
         6 => state.plan.units[kind] -= 1,
+        7 => state.plan.releases[t] = state.starts[t] + random.below(3) as u32,
         _ => damage(random, &mut state.plan, &mut state.constraint),
     }
 }
@@ -224,11 +228,18 @@ fn tick_on_altered_states() {
             assert_eq!(plain, fast::tick(altered, report));
             met.note(&plain.1);
             met.0.note_instant("", instant, &plain.0, &plain.1);
+            match plain.1 {
+                Ok(started) => met.0.note_walk("", &plain.0, plain.0.instant, started),
+                Err(Refusal { number: 12, .. }) => met.0.note_unsound("", &plain.0),
+                Err(_) => {}
+            }
             (state, _) = state.tick(report);
         }
     }
     met.all(&[0, 12, 14, 16]);
     met.cases("", cases::INSTANTS.as_flattened());
+    met.cases("", &cases::WAITS);
+    met.cases("", &cases::EARLY);
 }
 
 #[test]

@@ -1,4 +1,5 @@
-//! Long exposures (document 02, 4): the ends of each range, and what is just beyond, in both forms.
+//! Long exposures and instants to wait for (document 02, 4 and 6): the ends of each range, and what
+//! is just beyond, in both forms.
 use rival::driver::session;
 use rival::edges;
 use rival::fast;
@@ -10,15 +11,16 @@ use rival::state::{start, State};
 use rival::timetable::{of_worst_times, program, timetable};
 use std::fmt::Display;
 
-/// The request's own numbers; everywhere else they follow from the names.
+/// The requests' own numbers; everywhere else they follow from the names.
 #[test]
 fn the_numbers() {
     assert_eq!((LONGEST_TIME, LATEST_DEADLINE, DIGITS), (1_000_000, 1_000_000, 7));
-    assert_eq!((LAST_INSTANT, LONGEST_TIMETABLE), (64_000_000, 1_448));
-    assert_eq!((LEAST_MARGIN, GREATEST_MARGIN), (-63_999_999, 999_999));
+    assert_eq!(LATEST_RELEASE, 1_000_000);
+    assert_eq!((LAST_INSTANT, LONGEST_TIMETABLE), (65_000_000, 1_456));
+    assert_eq!((LEAST_MARGIN, GREATEST_MARGIN), (-64_999_999, 999_999));
     assert_eq!(edges::TIMES, [1, 65_535, 65_536, 999_999, 1_000_000]);
-    assert_eq!(edges::DEADLINES, edges::TIMES);
-    assert_eq!(edges::INSTANTS, [4_194_240, 63_999_999, 64_000_000, 64_000_001]);
+    assert_eq!((edges::DEADLINES, edges::RELEASES), (edges::TIMES, edges::TIMES));
+    assert_eq!(edges::INSTANTS, [4_194_240, 64_999_999, 65_000_000, 65_000_001]);
 }
 
 fn no(number: u64, place: u64) -> Refusal {
@@ -100,9 +102,47 @@ fn deadlines_that_are_read() {
     }
 }
 
+/// One task that starts at its not-before instant, as when it is 0 and there is no line.
+#[test]
+fn releases_that_are_read() {
+    let text = |release: u32| one_task(1, 1, 1).replace("C\t", &format!("N\t0\t{release}\nC\t"));
+    for release in [&[0], &edges::RELEASES[..]].concat() {
+        let (plan, constraint) = read(&text(release)).unwrap();
+        assert_eq!((plan.releases[0], check(&plan, &constraint)), (release, Ok(())));
+        let run = bound(&plan, &constraint).unwrap();
+        assert_eq!((run.starts[0], run.response), (release, release + 1));
+        assert_eq!(fast::simulate(&plan, &constraint, &[1]), Ok(run));
+    }
+    assert_eq!(read(&text(0)), read(&one_task(1, 1, 1)));
+    for release in OUT_OF_RANGE.into_iter().filter(|&release| release != 0) {
+        assert_eq!(read(&text(release)), Err(no(3, D_PLACE + 1)));
+    }
+}
+
+/// Of the only task, and of one that is not there.
+#[test]
+fn releases_in_a_plan() {
+    let (plan, constraint) = read(&one_task(1, 1, 1)).unwrap();
+    for (task, release, answer) in [
+        (0, LATEST_RELEASE, Ok(())),
+        (0, LATEST_RELEASE + 1, Err(no(8, 0))),
+        (0, u32::MAX, Err(no(8, 0))),
+        (1, 0, Ok(())),
+        (1, 1, Err(no(8, 0))),
+        (63, LATEST_RELEASE, Err(no(8, 0))),
+    ] {
+        let mut plan = plan.clone();
+        plan.releases[task] = release;
+        assert_eq!(check(&plan, &constraint), answer);
+    }
+}
+
 /// A text with a line of each kind, which is read, with another field in one place.
 fn with_field(line: usize, at: usize, field: &str) -> String {
-    let lines = ["U\t0\t1", "T\t0\t0\t1\t1", "T\t1\t0\t1\t1", "A\t0\t1", "D\t0\t1", "C\t0\t0", "C\t1\t0"];
+    let lines = [
+        "U\t0\t1", "T\t0\t0\t1\t1", "T\t1\t0\t1\t1", "A\t0\t1", "D\t0\t1", "N\t0\t1", "C\t0\t0",
+        "C\t1\t0",
+    ];
     let mut lines = lines.map(str::to_string);
     let mut parts: Vec<&str> = lines[line].split('\t').collect();
     parts[at] = field;
@@ -111,8 +151,10 @@ fn with_field(line: usize, at: usize, field: &str) -> String {
 }
 
 /// Each field of each kind of line: the line, counted from 0, and which of its fields.
-const FIELDS: [(usize, usize); 12] =
-    [(0, 1), (0, 2), (1, 1), (1, 2), (1, 3), (1, 4), (3, 1), (3, 2), (4, 1), (4, 2), (5, 1), (5, 2)];
+const FIELDS: [(usize, usize); 14] = [
+    (0, 1), (0, 2), (1, 1), (1, 2), (1, 3), (1, 4), (3, 1), (3, 2), (4, 1), (4, 2), (5, 1), (5, 2),
+    (6, 1), (6, 2),
+];
 
 /// Each field of the text, one after the other, is this one; it alone is refused.
 fn refused_everywhere(field: &str, number: u64) {
@@ -182,11 +224,31 @@ fn times_of_a_simulation() {
     }
 }
 
-/// All tasks one after the other, each as long as may be.
+/// All tasks one after the other, each as long as may be, the first as late as may be.
 fn longest_run() -> String {
     let times: String = (0..TASKS).map(|t| format!("T\t{t}\t0\t1\t{LONGEST_TIME}\n")).collect();
     let choices: String = (0..TASKS).map(|t| format!("C\t{t}\t0\n")).collect();
-    format!("U\t0\t1\n{times}{choices}")
+    format!("U\t0\t1\n{times}N\t0\t{LATEST_RELEASE}\n{choices}")
+}
+
+/// A later task waits in vain; an earlier instant lets the first task start sooner, by as much.
+#[test]
+fn nearly_the_longest_run() {
+    let run = |release: String| {
+        let text = longest_run().replace(&format!("N\t0\t{LATEST_RELEASE}\n"), &release);
+        let (plan, constraint) = read(&text).unwrap();
+        (bound(&plan, &constraint).unwrap().response, program(text.as_bytes()).len())
+    };
+    let all: String = (0..TASKS).map(|t| format!("N\t{t}\t{LATEST_RELEASE}\n")).collect();
+    assert_eq!(run(all), (LAST_INSTANT, LONGEST_TIMETABLE));
+    let (sooner, unheld) = (LAST_INSTANT - 1, LAST_INSTANT - LATEST_RELEASE);
+    // The first start has a digit fewer, and so have the finish and the start at ten million.
+    let release = LATEST_RELEASE - 1;
+    assert_eq!(run(format!("N\t0\t{release}\n")), (sooner, LONGEST_TIMETABLE - 3));
+    // 0 has one digit.
+    for release in ["", "N\t0\t0\n", &format!("N\t1\t{LATEST_RELEASE}\n")] {
+        assert_eq!(run(release.to_string()), (unheld, LONGEST_TIMETABLE - 8));
+    }
 }
 
 #[test]
@@ -268,13 +330,20 @@ fn the_longest_time_of_a_task() {
     assert_eq!(tick(&late, 1), (late.clone(), Err(no(12, 0))));
 }
 
-/// The run of worst times, from one finish to the next. Before each the last tick is refused
-/// without it.
+/// The run of worst times, from the first start and from one finish to the next. Before each finish
+/// the last tick is refused without it.
 #[test]
 fn the_longest_live_run() {
     let (plan, constraint) = read(&longest_run()).unwrap();
     let (mut state, answer) = start(&plan, &constraint);
-    assert_eq!(answer, Ok(1));
+    assert_eq!(answer, Ok(0));
+    state.instant = LATEST_RELEASE - 2;
+    for started in [0, 1] {
+        assert_eq!(tick(&state, 1), (state.clone(), Err(no(14, 0))));
+        let answer;
+        (state, answer) = tick(&state, 0);
+        assert_eq!(answer, Ok(started));
+    }
     for t in 0..TASKS as u64 {
         state.instant += LONGEST_TIME - 1;
         assert_eq!(tick(&state, 0), (state.clone(), Err(no(16, t))));

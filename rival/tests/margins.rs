@@ -115,7 +115,7 @@ fn in_a_row(worst: u32, line: &str) -> String {
 
 #[test]
 fn the_least_of_all_margins() {
-    let text = in_a_row(LONGEST_TIME, "D\t63\t1\n");
+    let text = in_a_row(LONGEST_TIME, &format!("D\t63\t1\nN\t0\t{LATEST_RELEASE}\n"));
     let answer = accepted(&text);
     assert_eq!((answer.least, answer.task, answer.margins[63]), (LEAST_MARGIN, 63, LEAST_MARGIN));
     let line = format!("63\t1\t{LAST_INSTANT}\t{LEAST_MARGIN}\n");

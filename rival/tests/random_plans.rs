@@ -6,7 +6,9 @@ use rival::limits::*;
 use rival::margins::margins;
 use rival::plan::*;
 use rival::random::Random;
-use rival::simulate::{bound, simulate};
+use rival::releases::greatest;
+use rival::run::Times;
+use rival::simulate::{bound, simulate, worst_times};
 use rival::state::{start, State};
 use rival::texts::sound_plan;
 
@@ -46,8 +48,15 @@ fn the_simulation_is_the_live_run() {
     }
 }
 
-/// The same for runs of any length, in both forms: between two finishes no tick starts anything, so
-/// the instant moves on to the one before each finish.
+/// The next finish, or the instant of the next task, whichever comes first.
+fn next_event(state: &State, run: &Times) -> Option<u32> {
+    let finishes = members(state.running()).map(|t| run.finishes[t]);
+    let release = state.next().map(|t| state.plan.releases[t]).filter(|&r| r > state.instant);
+    finishes.chain(release).min()
+}
+
+/// The same for runs of any length, in both forms: a tick starts something only at a finish or at a
+/// not-before instant, so the instant moves on to the one before each.
 #[test]
 fn the_simulation_is_the_long_live_run() {
     let (mut random, mut long) = (Random::new(7), 0);
@@ -56,7 +65,7 @@ fn the_simulation_is_the_long_live_run() {
         let times = allowed_times(&mut random, &plan, &constraint);
         let run = simulate(&plan, &constraint, &times).unwrap();
         let (mut state, _) = start(&plan, &constraint);
-        while let Some(next) = members(state.running()).map(|t| run.finishes[t]).min() {
+        while let Some(next) = next_event(&state, &run) {
             let up = members(state.running()).filter(|&t| run.finishes[t] == next);
             let report = up.fold(0, |set, t| set | 1 << t);
             state.instant = next - 1;
@@ -113,7 +122,7 @@ fn margins_are_the_journals() {
             continue;
         }
         let (mut journal, _) = Journal::open(&plan, &constraint);
-        let worst = rival::simulate::worst_times(&plan, &constraint);
+        let worst = worst_times(&plan, &constraint);
         while journal.tasks(Progress::Finished).len() < plan.tasks as usize {
             let up = |t: &usize| journal.start[*t].unwrap() + worst[*t] == journal.instant + 1;
             let running = journal.tasks(Progress::Running).into_iter();
@@ -157,6 +166,79 @@ fn a_quicker_task_makes_nothing_later() {
         assert!((0..TASKS).all(|t| first.finishes[t] <= second.finishes[t]));
         assert!(first.response <= second.response);
     }
+}
+
+/// The bound is at most the greatest not-before instant plus the sum of worst times, and is that
+/// now and then.
+#[test]
+fn the_bound_is_at_most_instant_plus_sum() {
+    let (mut random, mut equal, mut held) = (Random::new(8), 0, 0);
+    for _ in 0..1_000 {
+        let (plan, constraint) = sound_plan(&mut random);
+        let response = bound(&plan, &constraint).unwrap().response;
+        let sum: u32 = worst_times(&plan, &constraint).iter().sum();
+        assert!(response <= greatest(&plan) + sum);
+        equal += u64::from(greatest(&plan) > 0 && response == greatest(&plan) + sum);
+        let unheld = Plan { releases: [0; TASKS], ..plan.clone() };
+        let sooner = bound(&unheld, &constraint).unwrap().response;
+        assert!(sooner <= response && sooner <= sum);
+        held += u64::from(sooner < response);
+    }
+    assert!(equal > 20 && held > 100);
+}
+
+/// From the greatest not-before instant until the run is over a task runs after each walk; before it
+/// now and then none does.
+#[test]
+fn a_task_runs_once_all_instants_have_come() {
+    let (mut random, mut idle) = (Random::new(9), 0);
+    for _ in 0..300 {
+        let (plan, constraint) = sound_plan(&mut random);
+        let (mut journal, _) = Journal::open(&plan, &constraint);
+        let rarity = random.pick(&[1, 2, 8]);
+        for _ in 0..200 {
+            let running = journal.tasks(Progress::Running);
+            if journal.tasks(Progress::Finished).len() == plan.tasks as usize {
+                break;
+            }
+            assert!(!running.is_empty() || journal.instant < greatest(&plan));
+            idle += u64::from(running.is_empty());
+            let ends = |set, t: &usize| set | u64::from(random.once_in(rarity)) << t;
+            let report = running.iter().fold(0, ends);
+            if journal.report(report).is_err() {
+                let all = running.iter().fold(0, |set, t| set | 1 << t);
+                assert!(journal.report(all).is_ok());
+            }
+        }
+    }
+    assert!(idle > 100);
+}
+
+/// *Ready* asks for predecessors alone, whether or not the instant has come; what is ready and not
+/// started waits for its instant, for a unit or for the task before it in the order.
+#[test]
+fn ready_tasks_may_wait_for_their_instants() {
+    let (mut random, mut only) = (Random::new(10), 0);
+    for _ in 0..300 {
+        let (plan, constraint) = sound_plan(&mut random);
+        let (mut state, _) = start(&plan, &constraint);
+        let (mut journal, _) = Journal::open(&plan, &constraint);
+        for _ in 0..50 {
+            for t in journal.tasks(Progress::Ready) {
+                assert_eq!(plan.predecessors[t] & !state.finished, 0);
+                let next = state.next() == Some(t);
+                let free = members(state.running()).all(|other| {
+                    constraint.chosen()[other] != constraint.chosen()[t]
+                });
+                assert!(!next || !free || journal.instant < plan.releases[t]);
+                only += u64::from(next && free);
+            }
+            let report = some_report(&mut random, &state);
+            (state, _) = state.tick(report);
+            let _ = journal.report(report);
+        }
+    }
+    assert!(only > 100);
 }
 
 /// Every task is at least as far as in the run of worst times, and the run ends in time.

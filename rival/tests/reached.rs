@@ -4,7 +4,7 @@ use rival::driver::session;
 use rival::edges;
 use rival::limits::*;
 use rival::lines::*;
-use rival::reached::{Reached, TEXT};
+use rival::reached::{Reached, TEXT, TICKS_OF_Z};
 
 const PLAN_A: &str = include_str!("../../examples/plan-a.txt");
 
@@ -34,7 +34,7 @@ fn cases_of_times_out_of_range() {
 fn cases_of_fields() {
     let case = |line: &str| once(&reached(&format!("{line}\n"), &[]), TEXT, FIELDS.as_flattened());
     let (all, more, zeros) = ("9".repeat(DIGITS), "1".repeat(DIGITS + 1), "0".repeat(DIGITS));
-    let before = ["U\t0\t", "T\t0\t0\t1\t", "A\t0\t", "D\t0\t", "C\t0\t"];
+    let before = ["U\t0\t", "T\t0\t0\t1\t", "A\t0\t", "D\t0\t", "N\t0\t", "C\t0\t"];
     for (before, [all_digits, digit_more, leading_zeros]) in before.into_iter().zip(FIELDS) {
         assert_eq!(case(&format!("{before}{all}")), [all_digits]);
         assert_eq!(case(&format!("{before}{more}")), [digit_more]);
@@ -54,17 +54,21 @@ fn cases_of_fields() {
 
 #[test]
 fn cases_of_what_is_read() {
-    let cases = |best: u32, worst: u32, deadline: u32| {
-        let text = format!("U\t0\t1\nT\t0\t0\t{best}\t{worst}\nD\t0\t{deadline}\nC\t0\t0\n");
-        once(&reached(&text, &[]), TEXT, READ_EDGES.as_flattened())
+    let cases = |best: u32, worst: u32, deadline: u32, release: u32| {
+        let times = format!("U\t0\t1\nT\t0\t0\t{best}\t{worst}\n");
+        let text = format!("{times}D\t0\t{deadline}\nN\t0\t{release}\nC\t0\t0\n");
+        let all = [READ_EDGES.as_flattened(), &[RELEASE_OF_0]].concat();
+        once(&reached(&text, &[]), TEXT, &all)
     };
-    let [bests, worsts, deadlines] = READ_EDGES;
+    let [bests, worsts, deadlines, releases] = READ_EDGES;
     for i in 0..edges::TIMES.len() {
-        let (time, deadline) = (edges::TIMES[i], edges::DEADLINES[i]);
-        assert_eq!(cases(time, time, deadline), [bests[i], worsts[i], deadlines[i]]);
+        let (time, deadline, release) = (edges::TIMES[i], edges::DEADLINES[i], edges::RELEASES[i]);
+        let expected = [bests[i], worsts[i], deadlines[i], releases[i]];
+        assert_eq!(cases(time, time, deadline, release), expected);
     }
-    assert_eq!(cases(2, 3, 4), []);
-    assert_eq!(cases(1, LONGEST_TIME + 1, 1), []);
+    assert_eq!(cases(2, 3, 4, 5), []);
+    assert_eq!(cases(2, 3, 4, 0), [RELEASE_OF_0]);
+    assert_eq!(cases(1, LONGEST_TIME + 1, 1, 1), []);
 }
 
 #[test]
@@ -132,7 +136,7 @@ fn cases_of_the_longest_time() {
 fn cases_of_timetables() {
     let times: String = (0..TASKS).map(|t| format!("T\t{t}\t0\t1\t{LONGEST_TIME}\n")).collect();
     let choices: String = (0..TASKS).map(|t| format!("C\t{t}\t0\n")).collect();
-    let text = format!("U\t0\t1\n{times}{choices}");
+    let text = format!("U\t0\t1\n{times}N\t0\t{LATEST_RELEASE}\n{choices}");
     let cases = |text: &str, room: usize| once(&reached(text, &[&format!("W\t{room}")]), "W", &TIMETABLES);
     assert_eq!(cases(&text, LONGEST_TIMETABLE), [LONGEST_WRITTEN]);
     assert_eq!(cases(&text, LONGEST_TIMETABLE + 1), [LONGEST_WRITTEN]);
@@ -150,10 +154,13 @@ fn cases_that_are_asked() {
     let faults = Reached::default().faults();
     let texts = Reached::default().faults_of_texts();
     let line = |(number, words): &Case, command| format!("never reached: {number} {words} by {command}");
-    for case in FIELDS.as_flattened().iter().chain(READ_EDGES.as_flattened()) {
+    let read = READ_EDGES.as_flattened().iter().chain(&[RELEASE_OF_0]);
+    for case in FIELDS.as_flattened().iter().chain(read) {
         assert!(faults.contains(&line(case, TEXT)) && texts.contains(&line(case, TEXT)));
     }
-    for case in INSTANTS.as_flattened().iter().chain(&[LONGEST_REPORT, LONGEST_OVERRUN, UNSOUND_LONG]) {
+    let unsound = UNSOUND_PLANS.iter().chain(&EARLY);
+    let of_ticks = unsound.chain(&[LONGEST_REPORT, LONGEST_OVERRUN, IDLE_REPORT]);
+    for case in INSTANTS.as_flattened().iter().chain(of_ticks) {
         assert!(faults.contains(&line(case, "T")));
     }
     for command in ["M", "Y"] {
@@ -166,5 +173,13 @@ fn cases_that_are_asked() {
     for command in ["D", "K", "S"] {
         assert!(FAULTS.map(|case| line(&case, command)).iter().all(|line| faults.contains(line)));
     }
-    assert!(texts.contains(&line(&LONGEST_WRITTEN, TEXT)));
+    for command in ["B", "M", "T", TICKS_OF_Z] {
+        assert!(WAITS.map(|case| line(&case, command)).iter().all(|line| faults.contains(line)));
+    }
+    for command in ["B", "T"] {
+        assert!(START_EDGES.map(|case| line(&case, command)).iter().all(|line| faults.contains(line)));
+    }
+    assert!(faults.contains(&line(&IDLE, "S")) && faults.contains(&line(&BOUND_IS_SUM, "B")));
+    let of_texts = WAITS.iter().chain(&START_EDGES).chain(&[LONGEST_WRITTEN, BOUND_IS_SUM]);
+    assert!(of_texts.map(|case| line(case, TEXT)).all(|line| texts.contains(&line)));
 }

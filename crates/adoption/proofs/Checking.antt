@@ -45,7 +45,7 @@ module _ (p : Plan) (s : Schedule) where
 
   -- what is tried after 21, and after 20
   abbrev pub past-21 : Verdict
-  past-21 = unlessAt 22 (s .len) (unmeetable (p .units) (p .predecessors) s) noRefusal
+  past-21 = unlessAt 22 (s .len) (unmeetable (p .units) (p .predecessors) (p .releases) s) noRefusal
 
   abbrev pub past-20 : Verdict
   past-20 = unlessAt 21 (s .len) (mistimed (p .types) (p .wcet) s) past-21
@@ -103,9 +103,9 @@ module _ (p : Plan) (s : Schedule) where
           (type-of p s i (first-none (s .len) (mistimed (p .types) (p .wcet) s) (le-trans l21 (le-of-eq e21)) i l))
           (few-types p (o .kept))
 
-      module _ {b : ℕ} (e22 : b ≡ first (s .len) (unmeetable (p .units) (p .predecessors) s)) where
+      module _ {b : ℕ} (e22 : b ≡ first (s .len) (unmeetable (p .units) (p .predecessors) (p .releases) s)) where
         pub says-22 : b < s .len → refused 22 b ≡ judged p s
-        says-22 l = unless-found 22 (s .len) (unmeetable (p .units) (p .predecessors) s) noRefusal e22 l ∙ past
+        says-22 l = unless-found 22 (s .len) (unmeetable (p .units) (p .predecessors) (p .releases) s) noRefusal e22 l ∙ past
 
         pub takes : s .len ≤ b → noRefusal ≡ judged p s
-        takes l = unless-none 22 (s .len) (unmeetable (p .units) (p .predecessors) s) noRefusal e22 l ∙ past
+        takes l = unless-none 22 (s .len) (unmeetable (p .units) (p .predecessors) (p .releases) s) noRefusal e22 l ∙ past

@@ -9,9 +9,9 @@ use Rattle.task_set.specs.Bounded.{any, count}
 use Rattle.task_set.specs.Sets.{width, has, insert, intersect}
 use Rattle.task_set.proofs.Members.{one-meets}
 use Rattle.task_set.proofs.Tables.{getD-tabulate}
-use Rattle.plan.specs.Rules.{mostTasks, predecessorsOf}
+use Rattle.plan.specs.Rules.{mostTasks, predecessorsOf, releaseOf}
 use Rattle.adoption.specs.declared.Schedule.{Schedule}
-use Rattle.adoption.specs.Schedules.{taskAt, typeAt, startAt, finishAt, holds, hasty, crowded, unmeetable}
+use Rattle.adoption.specs.Schedules.{taskAt, typeAt, startAt, finishAt, holds, hasty, early, crowded, unmeetable}
 use Rattle.adoption.specs.Steps.{membersOf}
 
 -- record j finishes after the instant, and its task is needed
@@ -28,10 +28,12 @@ delays-by needed s instant j {members} {b} l fits e f = ap (λ (b : Bool). b && 
     here : intersect (getD members j 0) needed ≡ has needed (taskAt s j)
     here = rw (e, getD-tabulate mostTasks (λ i. insert 0 (taskAt s i)) j 0 l) (one-meets (taskAt s j) needed fits)
 
-pub unmeetable-by : (units predecessors : List ℕ) (s : Schedule) (i : ℕ) {t k needed n : ℕ} {b : Bool} → t ≡ taskAt s i
-    → needed ≡ predecessorsOf predecessors t → k ≡ typeAt s i → b ≡ any (s .len) (delays needed s (startAt s i))
-    → n ≡ count (s .len) (holds s (typeAt s i) (startAt s i)) → b || ltb (getD units k 0) n ≡ unmeetable units predecessors s i
-unfolding unmeetable hasty crowded delays
-unmeetable-by units predecessors s i d e h f g =
+pub unmeetable-by : (units predecessors releases : List ℕ) (s : Schedule) (i : ℕ) {t k needed release n : ℕ} {b : Bool}
+    → t ≡ taskAt s i → needed ≡ predecessorsOf predecessors t → release ≡ releaseOf releases t → k ≡ typeAt s i
+    → b ≡ any (s .len) (delays needed s (startAt s i))
+    → n ≡ count (s .len) (holds s (typeAt s i) (startAt s i))
+    → b || (ltb (startAt s i) release || ltb (getD units k 0) n) ≡ unmeetable units predecessors releases s i
+unfolding unmeetable hasty early crowded delays
+unmeetable-by units predecessors releases s i d e r h f g =
     ap₂ _||_ (f ∙ ap (λ (x : ℕ). any (s .len) (delays x s (startAt s i))) (e ∙ ap (predecessorsOf predecessors) d))
-    (ap₂ (λ (k : ℕ). ltb (getD units k 0)) h g)
+    (ap₂ _||_ (ap (ltb (startAt s i)) (r ∙ ap (releaseOf releases) d)) (ap₂ (λ (k : ℕ). ltb (getD units k 0)) h g))

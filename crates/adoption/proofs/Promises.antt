@@ -15,7 +15,7 @@ use Rattle.task_set.proofs.Bounded.{any-intro, any-none, count-mono, count-less
 use Rattle.plan.specs.declared.Plan.{Plan}
 use Rattle.plan.specs.declared.Constraint.{Constraint}
 use Rattle.plan.specs.declared.Verdict.{Verdict}
-use Rattle.plan.specs.Rules.{timeOf, predecessorsOf}
+use Rattle.plan.specs.Rules.{timeOf, predecessorsOf, releaseOf}
 use Rattle.plan.specs.Refusals.{entryAt, misplaced, unusable, noRefusal, verdict}
 use Rattle.plan.specs.Steps.{placed, unmet}
 use Rattle.plan.proofs.Kept.{known-predecessor}
@@ -137,13 +137,16 @@ module _ {p : Plan} {s : Schedule} (a : Taken p s) where
   -- at the schedule's starts every gate is open: 22 is what a gate asks, and the record itself is the one more
   gate-open : (k : ℕ) → k < p .tasks → ruleGate (orderOf p c) (ends x d) k (x k) ≡ true
   unfolding holds x
-  gate-open k l = gate-intro (orderOf p c) (ends x d) (x k) k (record { waited = waits; room = room })
+  gate-open k l = gate-intro (orderOf p c) (ends x d) (x k) k (record { waited = waits; released = released; room = room })
     where
       waits : (j : ℕ) → j < k → has (predecessorsOf (p .predecessors) (entryAt (c .order) k)) (entryAt (c .order) j) ≡ true
           → ends x d j ≤ x k
       waits j m w =
           let h = lt-trans m l in
           le-trans (le-of-eq (finish-at j h)) (a .waited (at k) (at j) (low k l) (low j h) (rw (order-at k l, order-at j h) at w))
+
+      released : releaseOf (p .releases) (entryAt (c .order) k) ≤ startAt s (at k)
+      released = le-trans (le-of-eq (ap (releaseOf (p .releases)) (order-at k l))) (a .released (at k) (low k l))
 
       -- the records that hold the type then, by place
       held : ℕ → Bool

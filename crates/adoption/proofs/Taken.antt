@@ -1,6 +1,6 @@
 -- What a schedule that nothing refuses gives. Assumes nothing.
 use mathlib.Core.Path.{_≡_, subst}
-use mathlib.Core.Bool.{Bool, true, false, not}
+use mathlib.Core.Bool.{Bool, true, false, _||_, not}
 use Prim.Native.Nat.{ℕ, _+_, _≤_, _<_}
 use native.Mathlib.Nat.{lt-of-lt-of-le}
 use native.Mathlib.Omega.{arith}
@@ -12,14 +12,14 @@ use Rattle.task_set.specs.Sets.{has}
 use Rattle.task_set.proofs.Truth.{by-test, clash, and-both, or-left-off, or-right-off}
 use Rattle.task_set.proofs.Bounded.{any-off}
 use Rattle.plan.specs.declared.Plan.{Plan}
-use Rattle.plan.specs.Rules.{timeOf, predecessorsOf, usable, planOk}
+use Rattle.plan.specs.Rules.{timeOf, predecessorsOf, releaseOf, usable, planOk}
 use Rattle.plan.specs.Refusals.{misplaced, unusable}
 use Rattle.plan.specs.Steps.{Positions}
 use Rattle.plan.proofs.Kept.{few-tasks, few-types}
 use Rattle.plan.proofs.Refusing.{cond-passed, unless-passed}
 use Rattle.plan.proofs.Arranged.{low, once, somewhere}
 use Rattle.adoption.specs.declared.Schedule.{Schedule}
-use Rattle.adoption.specs.Schedules.{taskAt, typeAt, startAt, finishAt, mistimed, holds, hasty, crowded, unmeetable, judged}
+use Rattle.adoption.specs.Schedules.{taskAt, typeAt, startAt, finishAt, mistimed, holds, hasty, early, crowded, unmeetable, judged}
 
 -- records go from 0 up to the number of tasks
 pub record Taken (p : Plan) (s : Schedule) : Type 0 where
@@ -33,9 +33,10 @@ pub record Taken (p : Plan) (s : Schedule) : Type 0 where
   pub type : (i : ℕ) → i < p .tasks → typeAt s i < p .types
   pub can-use : (i : ℕ) → i < p .tasks → usable (p .wcet) (taskAt s i) (typeAt s i) ≡ true
   pub ends : (i : ℕ) → i < p .tasks → finishAt s i ≡ startAt s i + timeOf (p .wcet) (taskAt s i) (typeAt s i)
-  -- it starts after its predecessors, with a unit for each record that holds its type then
+  -- it starts after its predecessors and not before its instant, with a unit for each record that holds its type then
   pub waited : (i j : ℕ) → i < p .tasks → j < p .tasks
       → has (predecessorsOf (p .predecessors) (taskAt s i)) (taskAt s j) ≡ true → finishAt s j ≤ startAt s i
+  pub released : (i : ℕ) → i < p .tasks → releaseOf (p .releases) (taskAt s i) ≤ startAt s i
   pub room : (i : ℕ) → i < p .tasks → count (p .tasks) (holds s (typeAt s i) (startAt s i)) ≤ getD (p .units) (typeAt s i) 0
 
 -- ---- what no fault of a record says
@@ -61,18 +62,22 @@ module _ (p : Plan) (s : Schedule) (i : ℕ) where
     unfolding mistimed
     ends-of = eqb-true _ _ (not-false _ (or-right-off unused _ right))
 
-  module _ (right : unmeetable (p .units) (p .predecessors) s i ≡ false) where
+  module _ (right : unmeetable (p .units) (p .predecessors) (p .releases) s i ≡ false) where
     waited-of : (j : ℕ) → j < s .len → has (predecessorsOf (p .predecessors) (taskAt s i)) (taskAt s j) ≡ true
         → finishAt s j ≤ startAt s i
     unfolding unmeetable hasty
     waited-of j l h =
         by-test (ltb (startAt s i) (finishAt s j))
-        (λ f. absurd (clash (and-both h f) (any-off (s .len) _ (or-left-off _ (crowded (p .units) s i) right) j l)))
+        (λ f. absurd (clash (and-both h f) (any-off (s .len) _ (or-left-off _ (early (p .releases) s i || crowded (p .units) s i) right) j l)))
         (ltb-false (startAt s i) (finishAt s j))
+
+    released-of : releaseOf (p .releases) (taskAt s i) ≤ startAt s i
+    unfolding unmeetable early
+    released-of = ltb-false _ _ (or-left-off _ (crowded (p .units) s i) (or-right-off (hasty (p .predecessors) s i) _ right))
 
     room-of : count (s .len) (holds s (typeAt s i) (startAt s i)) ≤ getD (p .units) (typeAt s i) 0
     unfolding unmeetable crowded
-    room-of = ltb-false _ _ (or-right-off (hasty (p .predecessors) s i) _ right)
+    room-of = ltb-false _ _ (or-right-off (early (p .releases) s i) _ (or-right-off (hasty (p .predecessors) s i) _ right))
 
 -- ---- nothing is refused
 
@@ -84,7 +89,7 @@ taken p s e =
     let whole : s .len ≡ p .tasks = eqb-true (s .len) (p .tasks) (not-false _ (r .0)) in
     let r20 = unless-passed 20 (s .len) (misplaced (p .tasks) (s .tasks)) _ (omega arith) (r .1) in
     let r21 = unless-passed 21 (s .len) (mistimed (p .types) (p .wcet) s) _ (omega arith) (r20 .1) in
-    let r22 = unless-passed 22 (s .len) (unmeetable (p .units) (p .predecessors) s) _ (omega arith) (r21 .1) in
+    let r22 = unless-passed 22 (s .len) (unmeetable (p .units) (p .predecessors) (p .releases) s) _ (omega arith) (r21 .1) in
     let order : (i : ℕ) → i < p .tasks → misplaced (p .tasks) (s .tasks) i ≡ false = λ i l. r20 .0 i (omega arith) in
     record {
       kept = not-false _ (r8 .0);
@@ -96,6 +101,7 @@ taken p s e =
       can-use = λ i l. use-of p s i (r21 .0 i (omega arith));
       ends = λ i l. ends-of p s i (r21 .0 i (omega arith));
       waited = λ i j l m. waited-of p s i (r22 .0 i (omega arith)) j (omega arith);
+      released = λ i l. released-of p s i (r22 .0 i (omega arith));
       room = λ i l.
           subst (λ (n : ℕ). count n (holds s (typeAt s i) (startAt s i)) ≤ getD (p .units) (typeAt s i) 0) whole
           (room-of p s i (r22 .0 i (omega arith)));

@@ -9,7 +9,7 @@ use Rattle.task_set.specs.Sets.{has}
 use Rattle.plan.specs.declared.Plan.{Plan}
 use Rattle.plan.specs.declared.Constraint.{Constraint}
 use Rattle.plan.specs.declared.Verdict.{Verdict}
-use Rattle.plan.specs.Rules.{mostTasks, timeOf, predecessorsOf, planOk}
+use Rattle.plan.specs.Rules.{mostTasks, timeOf, predecessorsOf, releaseOf, planOk}
 use Rattle.plan.specs.Refusals.{misplaced, unusable, refused, noRefusal, constraintOf, noConstraint, unlessAt}
 use Rattle.dispatch_theory.specs.Sums.{greatest}
 use Rattle.adoption.specs.declared.Record.{Record}
@@ -70,12 +70,16 @@ unfoldable pub hasty : List ℕ → Schedule → ℕ → Bool
 hasty predecessors s i =
     any (s .len) (λ j. has (predecessorsOf predecessors (taskAt s i)) (taskAt s j) && ltb (startAt s i) (finishAt s j))
 
+-- 22 "covers a start too soon" (document 02, 6), one before the task's not-before instant
+unfoldable pub early : List ℕ → Schedule → ℕ → Bool
+early releases s i = ltb (startAt s i) (releaseOf releases (taskAt s i))
+
 -- 22: "more tasks hold the record's type at its start than there are units"
 unfoldable pub crowded : List ℕ → Schedule → ℕ → Bool
 crowded units s i = ltb (getD units (typeAt s i) 0) (count (s .len) (holds s (typeAt s i) (startAt s i)))
 
-unfoldable pub unmeetable : List ℕ → List ℕ → Schedule → ℕ → Bool
-unmeetable units predecessors s i = hasty predecessors s i || crowded units s i
+unfoldable pub unmeetable : List ℕ → List ℕ → List ℕ → Schedule → ℕ → Bool
+unmeetable units predecessors releases s i = hasty predecessors s i || (early releases s i || crowded units s i)
 
 -- "8 first, then each of these over the whole list, place the first faulty record from 0";
 -- 20: "the record count is not the number of tasks (place the count), or a task is absent or repeats"
@@ -85,7 +89,7 @@ judged p s =
     (cond (not (eqb (s .len) (p .tasks))) (refused 20 (s .len))
     (unlessAt 20 (s .len) (misplaced (p .tasks) (s .tasks))
     (unlessAt 21 (s .len) (mistimed (p .types) (p .wcet) s)
-    (unlessAt 22 (s .len) (unmeetable (p .units) (p .predecessors) s)
+    (unlessAt 22 (s .len) (unmeetable (p .units) (p .predecessors) (p .releases) s)
     noRefusal))))
 
 -- ---- the constraint

@@ -96,6 +96,7 @@ fn members(tasks: &[u32; MOST_TASKS]) -> [u64; MOST_TASKS]
 fn is_unmeetable<'a>(
     units: &'a [u32; MOST_TYPES],
     predecessors: &'a [u64; MOST_TASKS],
+    releases: &'a [u32; MOST_TASKS],
     len: usize,
     tasks: &'a [u32; MOST_TASKS],
     members: &'a [u64; MOST_TASKS],
@@ -105,10 +106,12 @@ fn is_unmeetable<'a>(
     i: usize,
 ) -> bool
     requires { ⌜ ((i < len) × ((len ≤ mostTasks) × (getD (now used) i 0 < mostTypes))) × (now members ≡ membersOf (now tasks)) ⌝ }
-    ensures { λ r. ⌜ r ≡ unmeetable (now (units .entry)) (now (predecessors .entry))
+    ensures { λ r. ⌜ r ≡ unmeetable (now (units .entry)) (now (predecessors .entry)) (now (releases .entry))
         (scheduleOf len (now (tasks .entry)) (now (used .entry)) (now (starts .entry)) (now (finishes .entry))) i ⌝ }
 {
-    let needed = plan::predecessors_of(predecessors, wide(tasks[i]));
+    let t = wide(tasks[i]);
+    let needed = plan::predecessors_of(predecessors, t);
+    let release = plan::release_of(releases, t);
     let k = used[i];
     let start = starts[i];
     let mut hasty = false;
@@ -120,14 +123,15 @@ fn is_unmeetable<'a>(
         holders += held(used[j], k, starts[j], finish, start);
         j += 1;
     }
-    hasty | (units[wide(k)] < holders)
+    hasty | ((start < release) | (units[wide(k)] < holders))
 }
 
-// 22: the first record that starts before a predecessor's finish, or at whose start its type has too few units, and the
-// count where there is none.
+// 22: the first record that starts before a predecessor's finish or its task's not-before instant, or at whose start its type
+// has too few units, and the count where there is none.
 fn first_unmeetable<'a>(
     units: &'a [u32; MOST_TYPES],
     predecessors: &'a [u64; MOST_TASKS],
+    releases: &'a [u32; MOST_TASKS],
     len: usize,
     tasks: &'a [u32; MOST_TASKS],
     used: &'a [u32; MOST_TASKS],
@@ -135,7 +139,7 @@ fn first_unmeetable<'a>(
     finishes: &'a [u32; MOST_TASKS],
 ) -> usize
     requires { ⌜ (len ≤ mostTasks) × ((i : ℕ) → i < len → getD (now used) i 0 < mostTypes) ⌝ }
-    ensures { λ r. ⌜ r ≡ first len (unmeetable (now (units .entry)) (now (predecessors .entry))
+    ensures { λ r. ⌜ r ≡ first len (unmeetable (now (units .entry)) (now (predecessors .entry)) (now (releases .entry))
         (scheduleOf len (now (tasks .entry)) (now (used .entry)) (now (starts .entry)) (now (finishes .entry)))) ⌝ }
 {
     let sets = members(tasks);
@@ -144,6 +148,7 @@ fn first_unmeetable<'a>(
         if is_unmeetable(
             units,
             predecessors,
+            releases,
             len,
             tasks,
             &sets,
@@ -221,6 +226,7 @@ pub fn judge(p: Plan, s: Schedule) -> Verdict
     let unmeetable = first_unmeetable(
         &p.units,
         &p.predecessors,
+        &p.releases,
         len,
         &s.tasks,
         &s.types,

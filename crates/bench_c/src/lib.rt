@@ -1,12 +1,12 @@
 // The calls for programs in C, C++ and Python (include/benchplan.h): each is a library's own, with the library's own contract.
 ghost use mathlib.Core.Path.{_≡_};
-ghost use Prim.Native.Nat.{_≤_};
+ghost use Prim.Native.Nat.{_+_, _≤_};
 ghost use lib.ListN.{length};
 ghost use Rattle.plan.specs.Buffers.{atStart};
 ghost use Rattle.plan.specs.Refusals.{verdict};
 ghost use Rattle.plan_text.specs.Text.{readText};
 ghost use Rattle.dispatch_theory.specs.Sums.{sum};
-ghost use Rattle.runs.specs.Running.{bound, worst};
+ghost use Rattle.runs.specs.Running.{bound, greatestRelease, worst};
 ghost use Rattle.simulation.specs.Simulated.{simulated, worstCase};
 ghost use Rattle.adoption.specs.Schedules.{adopted, greatestFinish, listed};
 ghost use Rattle.slack.specs.Margins.{InRange, slacksOf};
@@ -51,7 +51,7 @@ pub extern "C" fn bench_simulate(p: Plan, c: Constraint, times: &[u32]) -> Simul
 
 #[no_mangle]
 pub extern "C" fn bench_bound(p: Plan, c: Constraint) -> Simulation
-    ensures { λ r. ⌜ (r ≡ worstCase p c) × (r .response ≤ sum (p .tasks) (worst p c)) ⌝ }
+    ensures { λ r. ⌜ (r ≡ worstCase p c) × (r .response ≤ greatestRelease p + sum (p .tasks) (worst p c)) ⌝ }
 {
     simulation::bound(p, c)
 }

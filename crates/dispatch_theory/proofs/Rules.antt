@@ -2,7 +2,7 @@
 use mathlib.Core.Path.{_≡_}
 use mathlib.Core.Bool.{Bool, true, _&&_, and-false}
 use Prim.Native.Nat.{ℕ, _+_, _≤_, _<_}
-use native.Mathlib.Nat.{lt-of-le-of-lt}
+use native.Mathlib.Nat.{lt-of-le-of-lt, le-trans}
 use native.Mathlib.Omega.{arith}
 use borrow.Author.Tests.{leb-true, le-leb, ltb-true, lt-ltb, le-ltb, eqb-true}
 use lib.Dec.{eqb, leb, ltb}
@@ -12,10 +12,12 @@ use Rattle.task_set.proofs.Bounded.{all-intro, all-elim, count-none, count-mono
 use Rattle.dispatch_theory.proofs.Gate.{Gate, Lawful}
 use Rattle.dispatch_theory.proofs.Greedy.{ends, Greedy}
 
--- an order of positions: which earlier positions k waits for, the type of each, and how many units a type has
+-- an order of positions: which earlier positions k waits for, the instant before which k does not start, the type of each,
+-- and how many units a type has
 pub record Order : Type 0 where
   pub size : ℕ
   pub waits : ℕ → ℕ → Bool
+  pub release : ℕ → ℕ
   pub type : ℕ → ℕ
   pub units : ℕ → ℕ
 
@@ -23,20 +25,25 @@ pub record Order : Type 0 where
 abbrev pub holds : Order → (ℕ → ℕ) → ℕ → ℕ → ℕ → Bool
 holds o F s t j = eqb (o .type j) t && ltb s (F j)
 
--- k may start at s beside the positions below it, which finish at F: each that it waits for is finished, and fewer units of
--- its type are held than there are
+-- k may start at s beside the positions below it, which finish at F: each that it waits for is finished, its instant has come,
+-- and fewer units of its type are held than there are
 unfoldable pub ruleGate : Order → Gate
 ruleGate o F k s =
-    all k (λ j. implies (o .waits k j) (leb (F j) s)) && ltb (count k (holds o F s (o .type k))) (o .units (o .type k))
+    all k (λ j. implies (o .waits k j) (leb (F j) s))
+    && (leb (o .release k) s && ltb (count k (holds o F s (o .type k))) (o .units (o .type k)))
 
 -- the gate as facts
 pub record Fits (o : Order) (F : ℕ → ℕ) (s k : ℕ) : Type 0 where
   pub waited : (j : ℕ) → j < k → o .waits k j ≡ true → F j ≤ s
+  pub released : o .release k ≤ s
   pub room : count k (holds o F s (o .type k)) < o .units (o .type k)
 
 module _ (o : Order) (F : ℕ → ℕ) (s k : ℕ) where
   abbrev met : ℕ → Bool
   met j = implies (o .waits k j) (leb (F j) s)
+
+  abbrev come : Bool
+  come = leb (o .release k) s
 
   abbrev roomy : Bool
   roomy = ltb (count k (holds o F s (o .type k))) (o .units (o .type k))
@@ -46,21 +53,23 @@ module _ (o : Order) (F : ℕ → ℕ) (s k : ℕ) where
   gate-elim e =
       record {
         waited = λ j l w. leb-true (F j) s
-            (implies-elim (o .waits k j) (leb (F j) s) (all-elim k met (and-left (all k met) roomy e) j l) w);
-        room = ltb-true _ (o .units (o .type k)) (and-right (all k met) roomy e);
+            (implies-elim (o .waits k j) (leb (F j) s) (all-elim k met (and-left (all k met) (come && roomy) e) j l) w);
+        released = leb-true (o .release k) s (and-left come roomy (and-right (all k met) (come && roomy) e));
+        room = ltb-true _ (o .units (o .type k)) (and-right come roomy (and-right (all k met) (come && roomy) e));
       }
 
   pub gate-intro : Fits o F s k → ruleGate o F k s ≡ true
   unfolding ruleGate
   gate-intro f =
       and-both (all-intro k met (λ j l. implies-intro (o .waits k j) (λ w. le-leb (F j) s (f .waited j l w))))
-      (lt-ltb _ (o .units (o .type k)) (f .room))
+      (and-both (le-leb (o .release k) s (f .released)) (lt-ltb _ (o .units (o .type k)) (f .room)))
 
 -- finishes at most c later: what fitted fits c later
 fits-later : (o : Order) (F G : ℕ → ℕ) (s c k : ℕ) → ((j : ℕ) → j < k → F j ≤ G j + c) → Fits o G s k → Fits o F (s + c) k
 fits-later o F G s c k h f =
     record {
       waited = λ j l w. omega (arith, h j l, f .waited j l w);
+      released = omega (arith, f .released);
       room = lt-of-le-of-lt (count-mono k (holds o F (s + c) t) (holds o G s t) fewer) (f .room);
     }
   where
@@ -70,11 +79,13 @@ fits-later o F G s c k h f =
     fewer : (j : ℕ) → j < k → holds o F (s + c) t j ≡ true → holds o G s t j ≡ true
     fewer j l = and-map (eqb (o .type j) t) (λ e. omega (arith, ltb-true, lt-ltb, h j l))
 
--- where every position below k is over, k fits
-fits-all : (o : Order) (F : ℕ → ℕ) (s k : ℕ) → ((j : ℕ) → j < k → F j ≤ s) → 1 ≤ o .units (o .type k) → Fits o F s k
-fits-all o F s k h u =
+-- where every position below k is over and the instant of k has come, k fits
+fits-all : (o : Order) (F : ℕ → ℕ) (s k : ℕ) → ((j : ℕ) → j < k → F j ≤ s) → o .release k ≤ s → 1 ≤ o .units (o .type k)
+    → Fits o F s k
+fits-all o F s k h b u =
     record {
       waited = λ j l w. h j l;
+      released = b;
       room = rw (count-none k (holds o F s t) (λ j l. rw (le-ltb s (F j) (h j l)) (and-false (eqb (o .type j) t)))) u;
     }
   where
@@ -85,11 +96,15 @@ fits-all o F s k h u =
 abbrev pub Roomy : Order → Type 0
 Roomy o = (k : ℕ) → k < o .size → 1 ≤ o .units (o .type k)
 
-pub rules-lawful : (o : Order) → Roomy o → Lawful (ruleGate o) (o .size) (λ j. 0) 0
-rules-lawful o u =
+-- no position has to wait for its instant past the instant base
+abbrev pub Released : Order → ℕ → Type 0
+Released o base = (k : ℕ) → k < o .size → o .release k ≤ base
+
+pub rules-lawful : (o : Order) (base : ℕ) → Roomy o → Released o base → Lawful (ruleGate o) (o .size) (λ j. 0) base
+rules-lawful o base u r =
     record {
       shift = λ F G k s c l h e. gate-intro o F (s + c) k (fits-later o F G s c k h (gate-elim o G s k e));
-      opens = λ F k s l h b. gate-intro o F s k (fits-all o F s k (λ j i. omega (arith, h j i)) (u k l));
+      opens = λ F k s l h b. gate-intro o F s k (fits-all o F s k (λ j i. omega (arith, h j i)) (le-trans (r k l) b) (u k l));
     }
 
 -- no more positions of a type hold a unit together than it has units: at the start of the last of them there was room for it

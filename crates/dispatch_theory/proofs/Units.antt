@@ -1,5 +1,5 @@
--- When the units of a type are free. A position starts at the latest of the start before it, the finishes that it waits for,
--- and the instant from which the unit is free that is free first. Assumes nothing.
+-- When the units of a type are free. A position starts at the latest of the start before it, its own not-before instant, the
+-- finishes that it waits for, and the instant from which the unit is free that is free first. Assumes nothing.
 use mathlib.Core.Path.{_≡_, refl, sym, ap, _∙_, subst}
 use mathlib.Core.Bool.{Bool, true, false, cond, _&&_, _||_, or-true, or-false}
 use Prim.Native.Nat.{ℕ, suc, _+_, _≤_, _<_, max, zero-le}
@@ -60,9 +60,9 @@ module _ (o : Order) {d S : ℕ → ℕ} (g : Greedy (ruleGate o) (o .size) d S)
         )))
         (ltb-false (S k) (F t u))
 
-    pub start-is : (w : ℕ) → ((j : ℕ) → j < k → o .waits k j ≡ true → ends S d j ≤ max (after S k) w) → w ≤ S k
-        → max (max (after S k) w) (F t u) ≡ S k
-    start-is w waited over =
+    pub start-is : (w : ℕ) → ((j : ℕ) → j < k → o .waits k j ≡ true → ends S d j ≤ max (after S k) w)
+        → o .release k ≤ max (after S k) w → w ≤ S k → max (max (after S k) w) (F t u) ≡ S k
+    start-is w waited released over =
         le-antisymm (max-le (max-le (g .order k low) over) free-then)
         (by-test (ltb x (S k)) (λ e. absurd (clash opens (g .closed k x low behind (ltb-true x (S k) e)))) (ltb-false x (S k)))
       where
@@ -80,6 +80,7 @@ module _ (o : Order) {d S : ℕ → ℕ} (g : Greedy (ruleGate o) (o .size) d S)
             gate-intro o (ends S d) x k
             (record {
               waited = λ j l q. le-trans (waited j l q) past;
+              released = le-trans released past;
               room = room-from x behind (le-max-right (max (after S k) w) (F t u));
             })
 

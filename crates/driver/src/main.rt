@@ -23,8 +23,8 @@
 //                    schedule gives: it is kept if accepted. The list of records is empty again
 //
 // Parts: 0 types, 1 units, 2 tasks, 3 best, 4 worst, 5 predecessors, 6 length, 7 an entry's task, 8 an entry's type,
-// 14 deadlines; for R also 9 instant, 10 count of started, 11 finished set, 12 starts, 13 finishes. The index is 0 where the
-// part is one number.
+// 14 deadlines, 15 not-before instants; for R also 9 instant, 10 count of started, 11 finished set, 12 starts, 13 finishes. The
+// index is 0 where the part is one number.
 // Any other line answers bad and changes nothing; so does a line of 1,024 bytes or more, as one line. A first line that is
 // no count answers bad, and no text is read. Input is read in pieces of 65,536 bytes: an answer may wait for later commands.
 mod commands;

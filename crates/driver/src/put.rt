@@ -9,7 +9,7 @@ use plan::Plan;
 
 // Whether a part is a plan's or a constraint's, and not a run state's alone.
 pub fn is_plan_part(part: u64) -> bool {
-    (part < 9) | (part == 14)
+    (part < 9) | (part == 14) | (part == 15)
 }
 
 // How many places a part has: 0 where there is no such part.
@@ -18,7 +18,7 @@ fn places(part: u64) -> u64 {
         0 | 2 | 6 | 9 | 10 | 11 => 1,
         1 => MOST_TYPES as u64,
         3 | 4 => MOST_PAIRS as u64,
-        5 | 7 | 8 | 12 | 13 | 14 => MOST_TASKS as u64,
+        5 | 7 | 8 | 12 | 13 | 14 | 15 => MOST_TASKS as u64,
         _ => 0,
     }
 }
@@ -26,7 +26,7 @@ fn places(part: u64) -> u64 {
 // Whether the values of a part have 32 bits; those of the others have 64.
 fn is_narrow(part: u64) -> bool {
     match part {
-        1 | 3 | 4 | 9 | 12 | 13 | 14 => true,
+        1 | 3 | 4 | 9 | 12 | 13 | 14 | 15 => true,
         _ => false,
     }
 }
@@ -35,7 +35,7 @@ pub fn is_put(part: u64, index: u64, value: u64) -> bool {
     (index < places(part)) & (!is_narrow(part) | fields::fits(value))
 }
 
-// The plan with a value in one of parts 0 to 5 and 14; as it was for any other.
+// The plan with a value in one of parts 0 to 5, 14 and 15; as it was for any other.
 pub fn into_plan(p: Plan, part: u64, i: usize, value: u64) -> Plan {
     match part {
         0 => with_types(p, value as usize),
@@ -45,6 +45,7 @@ pub fn into_plan(p: Plan, part: u64, i: usize, value: u64) -> Plan {
         4 => with_worst(p, i, fields::narrow(value)),
         5 => with_predecessors(p, i, value),
         14 => with_deadline(p, i, fields::narrow(value)),
+        15 => with_release(p, i, fields::narrow(value)),
         _ => p,
     }
 }
@@ -90,6 +91,13 @@ fn with_predecessors(mut p: Plan, t: usize, s: u64) -> Plan {
 fn with_deadline(mut p: Plan, t: usize, instant: u32) -> Plan {
     if t < MOST_TASKS {
         p.deadlines[t] = instant;
+    }
+    p
+}
+
+fn with_release(mut p: Plan, t: usize, instant: u32) -> Plan {
+    if t < MOST_TASKS {
+        p.releases[t] = instant;
     }
     p
 }

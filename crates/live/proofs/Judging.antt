@@ -24,7 +24,7 @@ use Rattle.runs.specs.Running.{isRunning}
 use Rattle.live.specs.declared.State.{State}
 use Rattle.live.specs.declared.sets.Marks.{Marks}
 use Rattle.live.specs.States.{isStarted, notesOf}
-use Rattle.live.specs.Soundness.{checked, startedFits, finishedStarted, startCame, finishCame}
+use Rattle.live.specs.Soundness.{checked, startedFits, finishedStarted, startCame, startReleased, finishCame}
 use Rattle.live.specs.Soundness.{unusedZero, timeLeft, unitsEnough, instantLow, taskSound, isSound}
 use Rattle.live.specs.Steps.{allTimesFit, enoughFor, runningOf, usersOf, soundBy}
 use Rattle.live.proofs.Marking.{marksIn}
@@ -93,7 +93,7 @@ module _ (s : State) where
     has-started = has-tasks (s .constraint .order) (s .started) (λ j. true)
 
     abbrev fits : ℕ → Bool
-    fits = allTimesFit (s .starts) (s .finishes) started (s .finished) (s .instant)
+    fits = allTimesFit (s .plan .releases) (s .starts) (s .finishes) started (s .finished) (s .instant)
 
     time-left : (t : ℕ) → t < width → timeLeft s t ≡ not (has spent t && has running t)
     unfolding timeLeft
@@ -103,7 +103,7 @@ module _ (s : State) where
         (λ e. rw (e, and-true, spent-own s a (y .few) t e) (sym (not-leb _ (s .instant)))) (λ e. rw (e, and-false (has spent t))))
 
     task-parts : (t : ℕ) → t < width → taskSound s t ≡ fits t && timeLeft s t
-    unfolding taskSound finishedStarted startCame finishCame unusedZero allTimesFit
+    unfolding taskSound finishedStarted startCame startReleased finishCame unusedZero allTimesFit
     task-parts t l = rw (has-started t l) (simp and-assoc)
 
     tasks-by : all width (taskSound s) ≡ all width fits && eqb (bitAnd spent running) 0
@@ -122,7 +122,7 @@ module _ (s : State) where
 
     pub sound-by : {u : List ℕ} {m : Marks} {done : Bool} → u ≡ usersOf s → m ≡ marksIn s
         → done ≡ all (s .plan .tasks) (has (s .finished))
-        → soundBy (s .plan .units) u (s .starts) (s .finishes) m done (s .finished) (s .instant) ≡ isSound s
+        → soundBy (s .plan .units) u (s .plan .releases) (s .starts) (s .finishes) m done (s .finished) (s .instant) ≡ isSound s
     unfolding isSound checked startedFits instantLow soundBy
     sound-by e f g =
         rw (e, f, g, ← tasks-by, ← units-by, over-notes s, eq-eqb _ 0 (y .checked), le-leb (s .started) (s .plan .tasks) (y .few))

@@ -23,7 +23,7 @@ use Rattle.runs.specs.Journal.{idle}
 use Rattle.runs.proofs.Closed.{notes-ext}
 use Rattle.live.specs.declared.State.{State}
 use Rattle.live.specs.States.{isStarted, notesOf}
-use Rattle.live.specs.Soundness.{checked, startedFits, finishedStarted, startCame, finishCame, unusedZero}
+use Rattle.live.specs.Soundness.{checked, startedFits, finishedStarted, startCame, startReleased, finishCame, unusedZero}
 use Rattle.live.specs.Soundness.{unitsEnough, instantLow, taskSound, isSound}
 use Rattle.live.specs.Steps.{firstTasks, usersOf, stateFrom, stampAt, Tidy, Walkable}
 use Rattle.live.proofs.StateBack.{past-zero, started-notes}
@@ -95,7 +95,8 @@ sound-tidy s h sound =
     unused : (t : ℕ) → t < width → unusedZero s t ≡ true
     unused t l =
         and-left (unusedZero s t) _
-        (and-right (finishCame s t) _ (and-right (startCame s t) _ (and-right (finishedStarted s t) _ (task s sound t l))))
+        (and-right (finishCame s t) _
+        (and-right (startReleased s t) _ (and-right (startCame s t) _ (and-right (finishedStarted s t) _ (task s sound t l)))))
 
 -- ---- running tasks are reported
 

@@ -3,7 +3,7 @@ use mathlib.Core.Path.{_≡_, refl, sym, ap, _∙_}
 use mathlib.Core.Bool.{Bool, true, false, _&&_, _||_}
 use mathlib.Core.Option.{Option, none, some}
 use Prim.Native.Nat.{ℕ, _+_, _≤_, _<_}
-use native.Mathlib.Nat.{lt-of-lt-of-le}
+use native.Mathlib.Nat.{le-trans, lt-of-lt-of-le}
 use native.Mathlib.Omega.{arith}
 use borrow.Author.Tests.{eq-eqb, leb-true, leb-false, le-leb, ltb-true, lt-ltb}
 use lib.Dec.{leb, ltb}
@@ -15,34 +15,35 @@ use Rattle.task_set.proofs.Bounded.{all-intro}
 use Rattle.task_set.proofs.Tables.{getD-tabulate}
 use Rattle.plan.specs.declared.Plan.{Plan}
 use Rattle.plan.specs.declared.Constraint.{Constraint}
-use Rattle.plan.specs.Rules.{mostTypes, mostTasks, lastInstant}
+use Rattle.plan.specs.Rules.{mostTypes, mostTasks, lastInstant, releaseOf}
 use Rattle.plan.specs.Refusals.{verdict}
 use Rattle.plan.proofs.Accepted.{Accepted, accepted}
-use Rattle.runs.specs.Running.{Notes, orZero, given, hasStarted, hasFinished, busy, worst, Allowed, timed, over, response, bound}
-use Rattle.runs.proofs.Positions.{position, worst-short, sum-short, allowed-lasts, allowed-most}
+use Rattle.runs.specs.Running.{Notes, orZero, given, hasStarted, hasFinished, busy, worst, Allowed, timed, over, horizon, response, bound}
+use Rattle.runs.proofs.Positions.{position, worst-short, horizon-short, allowed-lasts, allowed-most}
 use Rattle.runs.proofs.Orders.{startsOf}
-use Rattle.runs.proofs.Closed.{once, timed-closed}
+use Rattle.runs.proofs.Closed.{once, start-released, timed-closed}
 use Rattle.runs.proofs.Theorems.{first-over, within-bound, bound-sum, units-enough as runs-enough}
 use Rattle.live.specs.declared.State.{State}
 use Rattle.live.specs.States.{isStarted, stateOf}
-use Rattle.live.specs.Soundness.{startIn, finishIn, checked, startedFits, finishedStarted, startCame}
+use Rattle.live.specs.Soundness.{startIn, finishIn, checked, startedFits, finishedStarted, startCame, startReleased}
 use Rattle.live.specs.Soundness.{finishCame, unusedZero, timeLeft, unitsEnough, instantLow, taskSound, isSound}
 use Rattle.live.proofs.StateBack.{started-notes, finished-notes}
 use Rattle.live.proofs.Following.{Stands}
 
--- the start s and the finish f noted at instant i of a task with the worst time w: they have come, and a running task has
--- time left
-abbrev Came : ℕ → ℕ → Option ℕ → Option ℕ → Type 0
-Came i w none none = Unit
-Came i w none (some f) = ⊥
-Came i w (some s) none = (s ≤ i) × (i < s + w)
-Came i w (some s) (some f) = (s < f) × (f ≤ i)
+-- the start s and the finish f noted at instant i of a task with the not-before instant r and the worst time w: they have
+-- come, no start before r, and a running task has time left
+abbrev Came : ℕ → ℕ → ℕ → Option ℕ → Option ℕ → Type 0
+Came i r w none none = Unit
+Came i r w none (some f) = ⊥
+Came i r w (some s) none = (r ≤ s) × (s ≤ i) × (i < s + w)
+Came i r w (some s) (some f) = (r ≤ s) × (s < f) × (f ≤ i)
 
-came-once : (i s d w : ℕ) → 1 ≤ d → d ≤ w → (x y : Bool) → leb s i ≡ x → leb (s + d) i ≡ y → Came i w (once x s) (once y (s + d))
-came-once i s d w l m true true e f = (omega arith, leb-true (s + d) i f)
-came-once i s d w l m true false e f = (leb-true s i e, omega (arith, leb-false (s + d) i f))
-came-once i s d w l m false true e f = absurd (omega (arith, leb-false s i e, leb-true (s + d) i f))
-came-once i s d w l m false false e f = tt
+came-once : (i r s d w : ℕ) → r ≤ s → 1 ≤ d → d ≤ w → (x y : Bool) → leb s i ≡ x → leb (s + d) i ≡ y
+    → Came i r w (once x s) (once y (s + d))
+came-once i r s d w b l m true true e f = (b, omega arith, leb-true (s + d) i f)
+came-once i r s d w b l m true false e f = (b, leb-true s i e, omega (arith, leb-false (s + d) i f))
+came-once i r s d w b l m false true e f = absurd (omega (arith, leb-false s i e, leb-true (s + d) i f))
+came-once i r s d w b l m false false e f = tt
 
 module _ (p : Plan) (c : Constraint) (ok : verdict p c .number ≡ 0) (d : ℕ → ℕ) (w : Allowed p c d) (i : ℕ)
     (soon : i ≤ bound p c) where
@@ -62,26 +63,29 @@ module _ (p : Plan) (c : Constraint) (ok : verdict p c .number ≡ 0) (d : ℕ �
 
   -- ---- the tasks
 
-  came : (t : ℕ) → Came (n .instant) (worst p c t) (n .start t) (n .finish t)
+  came : (t : ℕ) → Came (n .instant) (releaseOf (p .releases) t) (worst p c t) (n .start t) (n .finish t)
   came t =
       let at = S (position c t) in
       rw (timed-closed a d lasts i)
       (by-test (ltb t (p .tasks))
       (λ e. let l = ltb-true t (p .tasks) e in
-      rw e (came-once i at (d t) (worst p c t) (lasts t l) (allowed-most a d w t l) (leb at i) (leb (at + d t) i) refl refl))
+      rw e
+      (came-once i _ at (d t) (worst p c t) (start-released a d lasts t l) (lasts t l) (allowed-most a d w t l) (leb at i)
+      (leb (at + d t) i) refl refl))
       (λ e. rw e tt))
 
   -- ---- the instant
 
   bound-low : bound p c ≤ lastInstant
-  bound-low = omega (arith, bound-sum p c ok, sum-short a (worst p c) (worst-short a))
+  unfolding horizon
+  bound-low = le-trans (bound-sum p c ok) (horizon-short a (worst p c) (worst-short a))
 
   module _ (st : Stands p c n) where
     abbrev s : State
     s = stateOf p c n
 
     task-sound : (t : ℕ) → t < width → taskSound s t ≡ true
-    unfolding stateOf taskSound finishedStarted startCame finishCame unusedZero timeLeft
+    unfolding stateOf taskSound finishedStarted startCame startReleased finishCame unusedZero timeLeft
     task-sound t l =
         go (n .start t) (n .finish t)
         (sym (started-notes s t) ∙ ap (λ (m : Notes). hasStarted m t) (st .back))
@@ -90,12 +94,13 @@ module _ (p : Plan) (c : Constraint) (ok : verdict p c .number ≡ 0) (d : ℕ �
         (came t)
       where
         go : (o f : Option ℕ) → isStarted s t ≡ given o → has (s .finished) t ≡ given f → startIn s t ≡ orZero o
-            → finishIn s t ≡ orZero f → Came (n .instant) (worst p c t) o f → taskSound s t ≡ true
+            → finishIn s t ≡ orZero f → Came (n .instant) (releaseOf (p .releases) t) (worst p c t) o f → taskSound s t ≡ true
         go none none b e x y k = rw (b, e, x, y)
         go none (some f) b e x y k = absurd k
-        go (some o) none b e x y k = rw (b, e, x, y, le-leb o (n .instant) (k .0), lt-ltb (n .instant) (o + worst p c t) (k .1))
+        go (some o) none b e x y k =
+            rw (b, e, x, y, le-leb _ o (k .0), le-leb o (n .instant) (k .1), lt-ltb (n .instant) (o + worst p c t) (k .2))
         go (some o) (some f) b e x y k =
-            rw (b, e, x, y, le-leb o (n .instant) (omega arith), lt-ltb o f (k .0), le-leb f (n .instant) (k .1))
+            rw (b, e, x, y, le-leb _ o (k .0), le-leb o (n .instant) (omega arith), lt-ltb o f (k .1), le-leb f (n .instant) (k .2))
 
     units-enough : (k : ℕ) → k < mostTypes → unitsEnough s k ≡ true
     unfolding unitsEnough stateOf

@@ -7,7 +7,7 @@ use native.Mathlib.Nat.{le-refl, lt-of-lt-of-le}
 use native.Mathlib.Numerals.{add-one}
 use native.Mathlib.Omega.{arith}
 use borrow.Author.Tests.{eqb-true, eqb-false, eq-eqb, ne-eqb, lt-ltb}
-use lib.Dec.{eqb, ltb}
+use lib.Dec.{eqb, leb, ltb}
 use lib.ListN.{getD, length-set, drop}
 use lib.Seq.{getD-set-same, getD-set-other}
 use Rattle.task_set.specs.Bounded.{all, implies}
@@ -15,9 +15,9 @@ use Rattle.task_set.specs.Sets.{width, has, insert, subset, without}
 use Rattle.task_set.proofs.Truth.{by-test, clash, off, or-left, or-left-off, or-right-off}
 use Rattle.task_set.proofs.Bounded.{any-intro, any-none, any-next}
 use Rattle.task_set.proofs.Members.{has-insert-low, insert-small, has-without, without-small, has-setOf, setOf-small, set-ext}
-use Rattle.plan.specs.Rules.{predecessorsOf}
+use Rattle.plan.specs.Rules.{predecessorsOf, releaseOf}
 use Rattle.plan.proofs.Accepted.{Accepted}
-use Rattle.runs.specs.Running.{Entry, entries, Notes, hasStarted, cleared, mayStart, begin, dispatch}
+use Rattle.runs.specs.Running.{Entry, entries, Notes, hasStarted, cleared, released, mayStart, begin, dispatch}
 use Rattle.runs.specs.Journal.{newlyStarted}
 use Rattle.runs.proofs.Orders.{entryOf, entries-from, entries-end}
 use Rattle.runs.proofs.Closed.{notes-ext}
@@ -37,9 +37,10 @@ at s w = stateFrom (s .plan) (s .constraint) (s .instant) (w .begun) (s .finishe
 -- the next task of the order may start, by the sets
 abbrev goes : State → ℕ → Bool
 goes s running =
+    let t = taskAt s (s .started) in
     let k = typeAt s (s .started) in
-    mayGo (predecessorsOf (s .plan .predecessors) (taskAt s (s .started))) (s .finished) (getD (usersOf s) k 0) running
-    (getD (s .plan .units) k 0)
+    mayGo (predecessorsOf (s .plan .predecessors) t) (s .finished) (releaseOf (s .plan .releases) t) (s .instant)
+    (getD (usersOf s) k 0) running (getD (s .plan .units) k 0)
 
 -- ---- it starts
 
@@ -120,9 +121,10 @@ module _ (s : State) (y : Tidy s) (low : s .started < s .plan .tasks) where
   -- ---- it may start by the sets exactly if it may by the notes
 
   may : mayStart (s .plan) (s .constraint) (notesOf s) (entryOf (s .constraint) (s .started)) ≡ goes s (runningOf s)
-  unfolding mayStart cleared subset
+  unfolding mayStart cleared released subset
   may =
-      ap₂ (λ (x : Bool) (n : ℕ). x && ltb n (getD (s .plan .units) k 0))
+      ap₂ (λ (x : Bool) (n : ℕ).
+      x && (leb (releaseOf (s .plan .releases) t) (s .instant) && ltb n (getD (s .plan .units) k 0)))
       (ap (λ (f : ℕ → Bool). all width (λ u. implies (has (predecessorsOf (s .plan .predecessors) t) u) (f u)))
       (fun-ext (finished-notes s)))
       (busy-size s a (y .few) k (lt-of-lt-of-le (a .type (s .started) low) (a .few-types)))
@@ -146,8 +148,8 @@ dispatched s y low =
 -- the walk of a state with these users and so many positions left, and all of it
 abbrev walk : State → List ℕ → ℕ → Walked → Walked
 walk s users =
-    walkFrom (s .plan .units) (s .plan .predecessors) (s .constraint .order) (s .constraint .chosen) users (s .instant)
-    (s .finished)
+    walkFrom (s .plan .units) (s .plan .predecessors) (s .plan .releases) (s .constraint .order) (s .constraint .chosen) users
+    (s .instant) (s .finished)
 
 abbrev walkAll : State → Walked
 walkAll s =

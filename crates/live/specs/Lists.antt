@@ -2,12 +2,12 @@
 use mathlib.Core.Path.{_≡_}
 use mathlib.Core.Bool.{true}
 use mathlib.Core.List.{List, [], _∷_}
-use Prim.Native.Nat.{ℕ, _≤_, _<_}
+use Prim.Native.Nat.{ℕ, _+_, _≤_, _<_}
 use Rattle.plan.specs.declared.Plan.{Plan}
 use Rattle.plan.specs.declared.Constraint.{Constraint}
 use Rattle.plan.specs.Refusals.{verdict}
 use Rattle.dispatch_theory.specs.Sums.{sum}
-use Rattle.runs.specs.Running.{worst, Allowed, timed, over, bound}
+use Rattle.runs.specs.Running.{worst, Allowed, timed, over, greatestRelease, bound}
 use Rattle.runs.specs.Progress.{stage, asFar}
 use Rattle.runs.specs.Journal.{Answer, openingAnswer, journal, answers, acceptedCount, takenTime}
 use Rattle.live.specs.declared.State.{State}
@@ -47,8 +47,8 @@ pub record Faithful (p : Plan) (c : Constraint) (reports : List ℕ) : Type 0 wh
   pub few : acceptedCount (saidAfter (started p c .state) reports) ≤ bound p c
   pub last : acceptedCount (saidAfter (started p c .state) reports) ≡ bound p c
       → over p (notesOf (stateAfter (started p c .state) reports)) ≡ true
-  -- "The bound is at most the sum of the worst times"
-  pub bounded : bound p c ≤ sum (p .tasks) (worst p c)
+  -- "The bound is at most the greatest such instant plus the sum of worst times" (document 02, 6)
+  pub bounded : bound p c ≤ greatestRelease p + sum (p .tasks) (worst p c)
 
 -- the one claim
 abbrev pub Claim : Type 0

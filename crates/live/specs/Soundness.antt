@@ -5,7 +5,7 @@ use lib.Dec.{eqb, leb, ltb}
 use lib.ListN.{getD}
 use Rattle.task_set.specs.Bounded.{all, implies}
 use Rattle.task_set.specs.Sets.{width, has}
-use Rattle.plan.specs.Rules.{mostTypes, lastInstant}
+use Rattle.plan.specs.Rules.{mostTypes, lastInstant, releaseOf}
 use Rattle.plan.specs.Refusals.{verdict}
 use Rattle.runs.specs.Running.{isRunning, busy, over, worst}
 use Rattle.live.specs.declared.State.{State}
@@ -34,6 +34,10 @@ finishedStarted s t = implies (has (s .finished) t) (isStarted s t)
 unfoldable pub startCame : State → ℕ → Bool
 startCame s t = implies (isStarted s t) (leb (startIn s t) (s .instant))
 
+-- not "a start before its instant" (document 02, 6)
+unfoldable pub startReleased : State → ℕ → Bool
+startReleased s t = implies (isStarted s t) (leb (releaseOf (s .plan .releases) t) (startIn s t))
+
 -- not "a finish not after its start or after the instant"
 unfoldable pub finishCame : State → ℕ → Bool
 finishCame s t = implies (has (s .finished) t) (ltb (startIn s t) (finishIn s t) && leb (finishIn s t) (s .instant))
@@ -55,7 +59,8 @@ unfoldable pub instantLow : State → Bool
 instantLow s = leb (s .instant) lastInstant && (over (s .plan) (notesOf s) || ltb (s .instant) lastInstant)
 
 unfoldable pub taskSound : State → ℕ → Bool
-taskSound s t = finishedStarted s t && (startCame s t && (finishCame s t && (unusedZero s t && timeLeft s t)))
+taskSound s t =
+    finishedStarted s t && (startCame s t && (startReleased s t && (finishCame s t && (unusedZero s t && timeLeft s t))))
 
 unfoldable pub isSound : State → Bool
 isSound s = checked s && (startedFits s && (all width (taskSound s) && (all mostTypes (unitsEnough s) && instantLow s)))

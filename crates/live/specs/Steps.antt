@@ -10,7 +10,7 @@ use Rattle.task_set.specs.Bounded.{all, any, implies, tabulate}
 use Rattle.task_set.specs.Sets.{width, has, insert, lowest, setOf, subset, size, without}
 use Rattle.plan.specs.declared.Plan.{Plan}
 use Rattle.plan.specs.declared.Constraint.{Constraint}
-use Rattle.plan.specs.Rules.{mostTypes, mostTasks, lastInstant, timeOf, predecessorsOf}
+use Rattle.plan.specs.Rules.{mostTypes, mostTasks, lastInstant, timeOf, predecessorsOf, releaseOf}
 use Rattle.plan.specs.declared.Verdict.{Verdict}
 use Rattle.plan.specs.Refusals.{entryAt, refused, noRefusal, verdict}
 use Rattle.plan.specs.Buffers.{atStart}
@@ -42,18 +42,20 @@ abbrev pub reached : List ℕ → List ℕ → List ℕ → List ℕ → ℕ →
 reached wcet starts order chosen n i =
     tasksAt order n (λ j. leb (getD starts (entryAt order j) 0 + timeOf wcet (entryAt order j) (entryAt chosen j)) i)
 
--- the start and the finish of a task that has started or not, finished or not, at an instant: the clauses of 12 about them
-abbrev pub timesFit : Bool → Bool → ℕ → ℕ → ℕ → Bool
-timesFit begun done start finish instant =
+-- the start and the finish of a task that has started or not, finished or not, at an instant, with its not-before instant: the
+-- clauses of 12 about them
+abbrev pub timesFit : Bool → Bool → ℕ → ℕ → ℕ → ℕ → Bool
+timesFit begun done release start finish instant =
     implies done begun
     && (implies begun (leb start instant)
+    && (implies begun (leb release start)
     && (implies done (ltb start finish && leb finish instant)
-    && ((begun || eqb start 0) && (done || eqb finish 0))))
+    && ((begun || eqb start 0) && (done || eqb finish 0)))))
 
 -- the same of task t in the arrays and sets of a state
-unfoldable pub allTimesFit : List ℕ → List ℕ → ℕ → ℕ → ℕ → ℕ → Bool
-allTimesFit starts finishes started finished instant t =
-    timesFit (has started t) (has finished t) (getD starts t 0) (getD finishes t 0) instant
+unfoldable pub allTimesFit : List ℕ → List ℕ → List ℕ → ℕ → ℕ → ℕ → ℕ → Bool
+allTimesFit releases starts finishes started finished instant t =
+    timesFit (has started t) (has finished t) (releaseOf releases t) (getD starts t 0) (getD finishes t 0) instant
 
 -- no more of the running tasks use type k than it has units
 unfoldable pub enoughFor : List ℕ → List ℕ → ℕ → ℕ → Bool
@@ -70,10 +72,10 @@ marksOf wcet starts order chosen len n instant =
     }
 
 -- the clauses of 12 after the first two, by sets
-unfoldable pub soundBy : List ℕ → List ℕ → List ℕ → List ℕ → Marks → Bool → ℕ → ℕ → Bool
-soundBy units users starts finishes m over finished instant =
+unfoldable pub soundBy : List ℕ → List ℕ → List ℕ → List ℕ → List ℕ → Marks → Bool → ℕ → ℕ → Bool
+soundBy units users releases starts finishes m over finished instant =
     let running = without (m .started) finished in
-    (all width (allTimesFit starts finishes (m .started) finished instant) && eqb (bitAnd (m .spent) running) 0)
+    (all width (allTimesFit releases starts finishes (m .started) finished instant) && eqb (bitAnd (m .spent) running) 0)
     && (all mostTypes (enoughFor units users running) && (leb instant lastInstant && (over || ltb instant lastInstant)))
 
 -- refused at the lowest member of a faulty set, otherwise what follows
@@ -95,9 +97,10 @@ stateFrom p c i n f b e = record { plan = p; constraint = c; instant = i; starte
 
 -- ---- the walk, on sets and arrays
 
--- the predecessors are finished, and fewer running tasks use the type than it has units
-abbrev pub mayGo : ℕ → ℕ → ℕ → ℕ → ℕ → Bool
-mayGo predecessors finished users running units = subset predecessors finished && ltb (size (bitAnd users running)) units
+-- the predecessors are finished, the not-before instant has come, and fewer running tasks use the type than it has units
+abbrev pub mayGo : ℕ → ℕ → ℕ → ℕ → ℕ → ℕ → ℕ → Bool
+mayGo predecessors finished release instant users running units =
+    subset predecessors finished && (leb release instant && ltb (size (bitAnd users running)) units)
 
 -- the task at the next position starts at the instant
 abbrev pub gone : List ℕ → ℕ → Walked → Walked
@@ -106,13 +109,15 @@ gone order instant w =
     record { begun = w .begun + 1; running = insert (w .running) t; starts = set (w .starts) t instant }
 
 -- the walk with so many positions left
-unfoldable pub walkFrom : List ℕ → List ℕ → List ℕ → List ℕ → List ℕ → ℕ → ℕ → ℕ → Walked → Walked
-walkFrom units predecessors order chosen users instant finished zero w = w
-walkFrom units predecessors order chosen users instant finished (suc left) w =
+unfoldable pub walkFrom : List ℕ → List ℕ → List ℕ → List ℕ → List ℕ → List ℕ → ℕ → ℕ → ℕ → Walked → Walked
+walkFrom units predecessors releases order chosen users instant finished zero w = w
+walkFrom units predecessors releases order chosen users instant finished (suc left) w =
     let t = entryAt order (w .begun) in
     let k = entryAt chosen (w .begun) in
-    let further = walkFrom units predecessors order chosen users instant finished left (gone order instant w) in
-    cond (mayGo (predecessorsOf predecessors t) finished (getD users k 0) (w .running) (getD units k 0)) further w
+    let further = walkFrom units predecessors releases order chosen users instant finished left (gone order instant w) in
+    let may = mayGo (predecessorsOf predecessors t) finished (releaseOf releases t) instant (getD users k 0) (w .running)
+    (getD units k 0) in
+    cond may further w
 
 -- each type's users in a state
 abbrev pub usersOf : State → List ℕ

@@ -11,29 +11,34 @@ use plan::MOST_TASKS;
 use plan::MOST_TYPES;
 
 // The clauses about the start and the finish of a task.
-fn times_fit(begun: bool, done: bool, start: u32, finish: u32, instant: u32) -> bool
-    ensures { λ r. ⌜ r ≡ timesFit begun done start finish instant ⌝ }
+fn times_fit(begun: bool, done: bool, release: u32, start: u32, finish: u32, instant: u32) -> bool
+    ensures { λ r. ⌜ r ≡ timesFit begun done release start finish instant ⌝ }
 {
     let started = !begun | (start <= instant);
+    let released = !begun | (release <= start);
     let ended = !done | ((start < finish) & (finish <= instant));
-    (!done | begun) & (started & (ended & ((begun | (start == 0)) & (done | (finish == 0)))))
+    let unused = (begun | (start == 0)) & (done | (finish == 0));
+    (!done | begun) & (started & (released & (ended & unused)))
 }
 
 fn all_times_fit<'a>(
+    releases: &'a [u32; MOST_TASKS],
     starts: &'a [u32; MOST_TASKS],
     finishes: &'a [u32; MOST_TASKS],
     started: u64,
     finished: u64,
     instant: u32,
 ) -> bool
-    ensures { λ r. ⌜ r ≡ all width (allTimesFit (now (starts .entry)) (now (finishes .entry)) started finished instant) ⌝ }
+    ensures { λ r. ⌜ r ≡ all width
+        (allTimesFit (now (releases .entry)) (now (starts .entry)) (now (finishes .entry)) started finished instant) ⌝ }
 {
     let mut ok = true;
     let mut t = 0;
     while t < MOST_TASKS {
         let b = task_set::contains(started, t);
         let d = task_set::contains(finished, t);
-        ok = ok & times_fit(b, d, starts[t], finishes[t], instant);
+        let release = plan::release_of(releases, t);
+        ok = ok & times_fit(b, d, release, starts[t], finishes[t], instant);
         t += 1;
     }
     ok
@@ -69,6 +74,7 @@ pub fn is_over(tasks: usize, finished: u64) -> bool
 pub fn is_sound<'a>(
     units: &'a [u32; MOST_TYPES],
     users: &'a [u64; MOST_TYPES],
+    releases: &'a [u32; MOST_TASKS],
     starts: &'a [u32; MOST_TASKS],
     finishes: &'a [u32; MOST_TASKS],
     m: Marks,
@@ -76,12 +82,12 @@ pub fn is_sound<'a>(
     finished: u64,
     instant: u32,
 ) -> bool
-    ensures { λ r. ⌜ r ≡ soundBy (now (units .entry)) (now (users .entry)) (now (starts .entry)) (now (finishes .entry))
-        m over finished instant ⌝ }
+    ensures { λ r. ⌜ r ≡ soundBy (now (units .entry)) (now (users .entry)) (now (releases .entry)) (now (starts .entry))
+        (now (finishes .entry)) m over finished instant ⌝ }
 {
     let running = task_set::difference(m.started, finished);
     let early = (instant <= LAST_INSTANT) & (over | (instant < LAST_INSTANT));
-    all_times_fit(starts, finishes, m.started, finished, instant)
+    all_times_fit(releases, starts, finishes, m.started, finished, instant)
         & ((m.spent & running) == 0)
         & (enough_units(units, users, running) & early)
 }

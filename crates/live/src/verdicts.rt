@@ -89,6 +89,7 @@ pub fn judge(s: State, report: u64) -> Judged
     if !is_sound(
         &p.units,
         &users,
+        &p.releases,
         &starts,
         &finishes,
         m,

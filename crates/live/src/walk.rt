@@ -17,17 +17,27 @@ pub struct Walked {
     pub starts: [u32; MOST_TASKS],
 }
 
-// Whether a task with these predecessors may start on a type with so many units.
-fn may_go(predecessors: u64, finished: u64, users: u64, running: u64, units: u32) -> bool
-    ensures { λ r. ⌜ r ≡ mayGo predecessors finished users running units ⌝ }
+// Whether a task with these predecessors and this not-before instant may start on a type with so many units.
+fn may_go(
+    predecessors: u64,
+    finished: u64,
+    release: u32,
+    instant: u32,
+    users: u64,
+    running: u64,
+    units: u32,
+) -> bool
+    ensures { λ r. ⌜ r ≡ mayGo predecessors finished release instant users running units ⌝ }
 {
-    task_set::is_subset(predecessors, finished) & (task_set::member_count(users & running) < units)
+    task_set::is_subset(predecessors, finished)
+        & ((release <= instant) & (task_set::member_count(users & running) < units))
 }
 
 // Tasks of the order start at the instant, one after the other, up to the first that may not.
 pub fn walk<'a>(
     units: &'a [u32; MOST_TYPES],
     predecessors: &'a [u64; MOST_TASKS],
+    releases: &'a [u32; MOST_TASKS],
     order: &'a [usize; MOST_TASKS],
     chosen: &'a [usize; MOST_TASKS],
     users: &'a [u64; MOST_TYPES],
@@ -37,8 +47,8 @@ pub fn walk<'a>(
     w: Walked,
 ) -> Walked
     requires { ⌜ Positions (now order) (now chosen) len ⌝ }
-    ensures { λ r. ⌜ r ≡ walkFrom (now (units .entry)) (now (predecessors .entry)) (now (order .entry)) (now (chosen .entry))
-        (now (users .entry)) instant finished (len - w .begun) w ⌝ }
+    ensures { λ r. ⌜ r ≡ walkFrom (now (units .entry)) (now (predecessors .entry)) (now (releases .entry)) (now (order .entry))
+        (now (chosen .entry)) (now (users .entry)) instant finished (len - w .begun) w ⌝ }
 {
     let mut n = w.begun;
     let mut running = w.running;
@@ -47,7 +57,8 @@ pub fn walk<'a>(
         let t = order[n];
         let k = chosen[n];
         let s = plan::predecessors_of(predecessors, t);
-        if !may_go(s, finished, users[k], running, units[k]) {
+        let release = plan::release_of(releases, t);
+        if !may_go(s, finished, release, instant, users[k], running, units[k]) {
             return Walked {
                 begun: n,
                 running,
@@ -81,10 +92,6 @@ pub fn walk_on(
     requires { ⌜ Walkable (stateFrom p c instant n finished starts finishes) users running ⌝ }
     ensures { λ r. ⌜ r ≡ walkedOn (stateFrom p c instant n finished starts finishes) ⌝ }
 {
-    let units = p.units;
-    let predecessors = p.predecessors;
-    let order = c.order;
-    let chosen = c.chosen;
     let len = c.len;
     let begin = Walked {
         begun: n,
@@ -92,10 +99,11 @@ pub fn walk_on(
         starts,
     };
     let w = walk(
-        &units,
-        &predecessors,
-        &order,
-        &chosen,
+        &p.units,
+        &p.predecessors,
+        &p.releases,
+        &c.order,
+        &c.chosen,
         &users,
         len,
         instant,

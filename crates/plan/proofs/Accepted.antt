@@ -10,10 +10,10 @@ use Rattle.task_set.specs.Sets.{width, has}
 use Rattle.task_set.proofs.Truth.{or-left-off, or-right-off}
 use Rattle.plan.specs.declared.Plan.{Plan}
 use Rattle.plan.specs.declared.Constraint.{Constraint}
-use Rattle.plan.specs.Rules.{mostTypes, mostUnits, mostTasks, latestDeadline, timeOf, predecessorsOf, deadlineOf, planOk}
+use Rattle.plan.specs.Rules.{mostTypes, mostUnits, mostTasks, latestDeadline, latestRelease, timeOf, predecessorsOf, deadlineOf, releaseOf, planOk}
 use Rattle.plan.specs.Refusals.{entryAt, unusable, verdict}
 use Rattle.plan.specs.Steps.{Positions}
-use Rattle.plan.proofs.Kept.{Times, some-types, few-types, some-tasks, few-tasks, due-task, some-units, few-units, usable-times}
+use Rattle.plan.proofs.Kept.{Times, some-types, few-types, some-tasks, few-tasks, due-task, release-low, some-units, few-units, usable-times}
 use Rattle.plan.proofs.Arranged.{low, once, somewhere, before}
 use Rattle.plan.proofs.Verdicts.{Passed, passed}
 
@@ -40,6 +40,8 @@ pub record Accepted (p : Plan) (c : Constraint) : Type 0 where
       → (j : ℕ) × (j < i) × (entryAt (c .order) j ≡ u)
   -- only tasks of the plan have deadlines, and these are in range
   pub due : (t : ℕ) → 0 < deadlineOf (p .deadlines) t → (t < p .tasks) × (deadlineOf (p .deadlines) t ≤ latestDeadline)
+  -- no not-before instant is later than the latest
+  pub released : (t : ℕ) → releaseOf (p .releases) t ≤ latestRelease
 
 pub accepted : (p : Plan) (c : Constraint) → verdict p c .number ≡ 0 → Accepted p c
 unfolding unusable
@@ -61,6 +63,7 @@ accepted p c e =
           (type i l)
           (not-false _ (or-right-off (leb (p .types) (entryAt (c .chosen) i)) _ (q .usable i l)));
       due = due-task p kept;
+      released = release-low p kept;
       earlier = λ i u l. before p kept (c .order) (q .placed) i l (q .ordered i l) u;
     }
   where

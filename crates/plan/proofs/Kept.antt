@@ -1,11 +1,12 @@
 -- What a plan that breaks no rule gives. Assumes nothing.
 use mathlib.Core.Path.{_≡_, sym, _∙_}
 use mathlib.Core.Bool.{Bool, true, false, _&&_, _||_, not, or-false}
+use mathlib.Core.List.{List}
 use mathlib.Core.Logic.{_⊎_, inl, inr, ⊎-elim}
 use Prim.Native.Nat.{ℕ, _≤_, _<_}
 use native.Mathlib.Nat.{lt-of-lt-of-le}
 use native.Mathlib.Omega.{arith}
-use borrow.Author.Tests.{eqb-true, leb-true, ltb-true, lt-ltb, not-true}
+use borrow.Author.Tests.{eqb-true, leb-true, ltb-true, ltb-false, lt-ltb, not-true}
 use lib.Dec.{eqb, leb, ltb}
 use lib.ListN.{getD}
 use Rattle.task_set.specs.Bounded.{all, implies}
@@ -13,7 +14,7 @@ use Rattle.task_set.specs.Sets.{width, has}
 use Rattle.task_set.proofs.Truth.{by-test, and-left, and-right, or-cases, implies-elim}
 use Rattle.task_set.proofs.Bounded.{all-elim}
 use Rattle.plan.specs.declared.Plan.{Plan}
-use Rattle.plan.specs.Rules.{mostTypes, mostUnits, mostTasks, longestTime, latestDeadline, between, timeOf, predecessorsOf, deadlineOf, usable, countsOk, unitsOk, pairOk, pairsOk, someTypeOk, predecessorsOk, taskOk, deadlineOk, planOk}
+use Rattle.plan.specs.Rules.{mostTypes, mostUnits, mostTasks, longestTime, latestDeadline, latestRelease, between, timeOf, predecessorsOf, instantOf, deadlineOf, releaseOf, usable, countsOk, unitsOk, pairOk, pairsOk, someTypeOk, predecessorsOk, taskOk, instantOk, planOk}
 
 -- a rule for present things and one for absent ones, at a present thing
 at-present : (here a b : Bool) → (here && a) || (not here && b) ≡ true → here ≡ true → a ≡ true
@@ -53,6 +54,21 @@ pair-times here best worst e f = go (or-cases (eqb best 0 && eqb worst 0) (here 
           short = leb-true worst longestTime (and-right (leb best worst) (leb worst longestTime) q);
         }
 
+-- where the rule of instants holds of all numbers, one that has an instant is a task, and the instant is in range
+instant-kept : (tasks latest : ℕ) (instants : List ℕ) → all mostTasks (instantOk tasks latest instants) ≡ true → (t : ℕ)
+    → 0 < instantOf instants t → (t < tasks) × (instantOf instants t ≤ latest)
+unfolding instantOf instantOk
+instant-kept tasks latest instants e t l = by-test (ltb t mostTasks) inside (λ f. absurd (omega (arith, rw f at l)))
+  where
+    i : ℕ
+    i = instantOf instants t
+
+    inside : ltb t mostTasks ≡ true → (t < tasks) × (i ≤ latest)
+    inside f =
+        ⊎-elim (λ z. absurd (omega (arith, eqb-true i 0 z)))
+        (λ q. (ltb-true t tasks (and-left (ltb t tasks) _ q), leb-true i latest (and-right (ltb t tasks) _ q)))
+        (or-cases (eqb i 0) _ (all-elim mostTasks _ e t (ltb-true t mostTasks f)))
+
 module _ (p : Plan) (e : planOk p ≡ true) where
   abbrev units-rule : Bool
   units-rule = all mostTypes (unitsOk (p .types) (p .units))
@@ -61,18 +77,24 @@ module _ (p : Plan) (e : planOk p ≡ true) where
   tasks-rule = all mostTasks (taskOk (p .types) (p .tasks) (p .bcet) (p .wcet) (p .predecessors))
 
   abbrev deadlines-rule : Bool
-  deadlines-rule = all mostTasks (deadlineOk (p .tasks) (p .deadlines))
+  deadlines-rule = all mostTasks (instantOk (p .tasks) latestDeadline (p .deadlines))
+
+  abbrev releases-rule : Bool
+  releases-rule = all mostTasks (instantOk (p .tasks) latestRelease (p .releases))
 
   counts : countsOk (p .types) (p .tasks) ≡ true
   unfolding planOk
   counts = and-left (countsOk (p .types) (p .tasks)) _ e
 
-  rest : units-rule && (tasks-rule && deadlines-rule) ≡ true
+  rest : units-rule && (tasks-rule && (deadlines-rule && releases-rule)) ≡ true
   unfolding planOk
   rest = and-right (countsOk (p .types) (p .tasks)) _ e
 
-  per-task : tasks-rule && deadlines-rule ≡ true
+  per-task : tasks-rule && (deadlines-rule && releases-rule) ≡ true
   per-task = and-right units-rule _ rest
+
+  instants : deadlines-rule && releases-rule ≡ true
+  instants = and-right tasks-rule _ per-task
 
   pub some-types : 1 ≤ p .types
   unfolding countsOk
@@ -92,20 +114,18 @@ module _ (p : Plan) (e : planOk p ≡ true) where
   -- a task with a deadline is one of the plan, and the deadline is in range
   pub due-task : (t : ℕ) → 0 < deadlineOf (p .deadlines) t
       → (t < p .tasks) × (deadlineOf (p .deadlines) t ≤ latestDeadline)
-  unfolding deadlineOf deadlineOk
-  due-task t l = by-test (ltb t mostTasks) inside (λ e. absurd (omega (arith, rw e at l)))
-    where
-      d : ℕ
-      d = deadlineOf (p .deadlines) t
+  due-task = instant-kept (p .tasks) latestDeadline (p .deadlines) (and-left deadlines-rule releases-rule instants)
 
-      inside : ltb t mostTasks ≡ true → (t < p .tasks) × (d ≤ latestDeadline)
-      inside e =
-          let r = all-elim mostTasks _ (and-right tasks-rule deadlines-rule per-task) t (ltb-true t mostTasks e) in
-          ⊎-elim (λ z. absurd (omega (arith, eqb-true d 0 z)))
-          (λ q. (
-            ltb-true t (p .tasks) (and-left (ltb t (p .tasks)) _ q),
-            leb-true d latestDeadline (and-right (ltb t (p .tasks)) _ q),
-          )) (or-cases (eqb d 0) _ r)
+  -- no not-before instant is later than the latest
+  pub release-low : (t : ℕ) → releaseOf (p .releases) t ≤ latestRelease
+  release-low t =
+      by-test (ltb 0 r)
+      (λ l. instant-kept (p .tasks) latestRelease (p .releases) (and-right deadlines-rule releases-rule instants) t
+      (ltb-true 0 r l) .1)
+      (λ l. omega (arith, ltb-false 0 r l))
+    where
+      r : ℕ
+      r = releaseOf (p .releases) t
 
   units-between : (k : ℕ) → k < p .types → between 1 (getD (p .units) k 0) mostUnits ≡ true
   unfolding unitsOk
@@ -134,7 +154,7 @@ module _ (p : Plan) (e : planOk p ≡ true) where
     unfolding taskOk
     task-ok =
         all-elim mostTasks (taskOk (p .types) (p .tasks) (p .bcet) (p .wcet) (p .predecessors))
-        (and-left tasks-rule deadlines-rule per-task) t
+        (and-left tasks-rule _ per-task) t
         (lt-of-lt-of-le present few-tasks)
 
     pub usable-times : (k : ℕ) → k < p .types → usable (p .wcet) t k ≡ true → Times (timeOf (p .bcet) t k) (timeOf (p .wcet) t k)

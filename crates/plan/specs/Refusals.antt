@@ -37,8 +37,8 @@ abbrev pub noRefusal : Verdict
 noRefusal = refused 0 0
 
 -- a plan and a constraint with these parts
-abbrev pub planOf : ℕ → List ℕ → ℕ → List ℕ → List ℕ → List ℕ → List ℕ → Plan
-planOf types units tasks bcet wcet predecessors deadlines =
+abbrev pub planOf : ℕ → List ℕ → ℕ → List ℕ → List ℕ → List ℕ → List ℕ → List ℕ → Plan
+planOf types units tasks bcet wcet predecessors deadlines releases =
     record {
       types = types;
       units = units;
@@ -47,6 +47,7 @@ planOf types units tasks bcet wcet predecessors deadlines =
       wcet = wcet;
       predecessors = predecessors;
       deadlines = deadlines;
+      releases = releases;
     }
 
 abbrev pub constraintOf : ℕ → List ℕ → List ℕ → Constraint
@@ -56,7 +57,7 @@ constraintOf len order chosen = record { len = len; order = order; chosen = chos
 abbrev pub noPlan : Plan
 noPlan =
     planOf 0 (replicate mostTypes 0) 0 (replicate mostPairs 0) (replicate mostPairs 0) (replicate mostTasks 0)
-    (replicate mostTasks 0)
+    (replicate mostTasks 0) (replicate mostTasks 0)
 
 abbrev pub noConstraint : Constraint
 noConstraint = constraintOf 0 (replicate mostTasks 0) (replicate mostTasks 0)

@@ -29,9 +29,14 @@ longestTime = 1000000
 abbrev pub latestDeadline : ℕ
 latestDeadline = 1000000
 
--- "64,000,000" (document 02, 4), and no run is longer: every task one after the other, each with the longest time
+-- "instant from 0 to 1,000,000" (document 02, 6)
+abbrev pub latestRelease : ℕ
+latestRelease = 1000000
+
+-- "65,000,000" (document 02, 6), and no run is longer: from the latest not-before instant on every task one after the other,
+-- each with the longest time
 abbrev pub lastInstant : ℕ
-lastInstant = mostTasks * longestTime
+lastInstant = latestRelease + mostTasks * longestTime
 
 abbrev pub between : ℕ → ℕ → ℕ → Bool
 between a x b = leb a x && leb x b
@@ -54,9 +59,17 @@ pairPlace t k = cond (ltb t mostTasks && ltb k mostTypes) (pairIndex t k) mostPa
 unfoldable pub predecessorsOf : List ℕ → ℕ → ℕ
 predecessorsOf predecessors t = cond (ltb t mostTasks) (getD predecessors t 0) 0
 
--- its deadline (document 02, 2), 0 for none; a number past the last task has none
-unfoldable pub deadlineOf : List ℕ → ℕ → ℕ
-deadlineOf deadlines t = cond (ltb t mostTasks) (getD deadlines t 0) 0
+-- the instant of task t, from one for each task, 0 for none; a number past the last task has none
+unfoldable pub instantOf : List ℕ → ℕ → ℕ
+instantOf instants t = cond (ltb t mostTasks) (getD instants t 0) 0
+
+-- its deadline (document 02, 2)
+abbrev pub deadlineOf : List ℕ → ℕ → ℕ
+deadlineOf = instantOf
+
+-- its not-before instant, "the earliest instant at which the task may start; without one it is 0" (document 02, 6)
+abbrev pub releaseOf : List ℕ → ℕ → ℕ
+releaseOf = instantOf
 
 -- the task can use the type: the pair is not 0 and 0
 unfoldable pub usable : List ℕ → ℕ → ℕ → Bool
@@ -101,11 +114,12 @@ unfoldable pub taskOk : ℕ → ℕ → List ℕ → List ℕ → List ℕ → �
 taskOk types tasks bcet wcet predecessors t =
     pairsOk types tasks bcet wcet t && (someTypeOk tasks wcet t && predecessorsOk tasks predecessors t)
 
--- "8 covers a deadline out of range or of an absent task, where 0 means none" (document 02, 2)
-unfoldable pub deadlineOk : ℕ → List ℕ → ℕ → Bool
-deadlineOk tasks deadlines t =
-    let d = deadlineOf deadlines t in
-    eqb d 0 || (ltb t tasks && leb d latestDeadline)
+-- "8 covers a deadline out of range or of an absent task, where 0 means none" (document 02, 2), and not-before instants as well
+-- ("8 covers them": document 02, 6)
+unfoldable pub instantOk : ℕ → ℕ → List ℕ → ℕ → Bool
+instantOk tasks latest instants t =
+    let i = instantOf instants t in
+    eqb i 0 || (ltb t tasks && leb i latest)
 
 -- the plan breaks no rule
 unfoldable pub planOk : Plan → Bool
@@ -113,4 +127,5 @@ planOk p =
     countsOk (p .types) (p .tasks)
     && (all mostTypes (unitsOk (p .types) (p .units))
     && (all mostTasks (taskOk (p .types) (p .tasks) (p .bcet) (p .wcet) (p .predecessors))
-    && all mostTasks (deadlineOk (p .tasks) (p .deadlines))))
+    && (all mostTasks (instantOk (p .tasks) latestDeadline (p .deadlines))
+    && all mostTasks (instantOk (p .tasks) latestRelease (p .releases)))))

@@ -1,7 +1,7 @@
 // Plans and constraints, and the check that takes or refuses them (document 01, "The plan").
 ghost use mathlib.Core.Path.{_≡_};
 ghost use Rattle.plan.specs.Refusals.{noConstraint, noPlan};
-ghost use Rattle.plan.specs.Rules.{deadlineOf, pairPlace, predecessorsOf, timeOf, usable};
+ghost use Rattle.plan.specs.Rules.{deadlineOf, instantOf, pairPlace, predecessorsOf, releaseOf, timeOf, usable};
 
 mod order;
 mod rules;
@@ -21,10 +21,13 @@ pub const LONGEST_TIME: u32 = 1000000;
 
 pub const LATEST_DEADLINE: u32 = 1000000;
 
-// No run is longer: every task one after the other, each with the longest time.
-pub const LAST_INSTANT: u32 = MOST_TASKS as u32 * LONGEST_TIME;
+pub const LATEST_RELEASE: u32 = 1000000;
 
-// Times are kept task by task: pair_index alone knows where one lies. A deadline is 0 for a task without.
+// No run is longer: from the latest not-before instant on every task one after the other, each with the longest time.
+pub const LAST_INSTANT: u32 = LATEST_RELEASE + MOST_TASKS as u32 * LONGEST_TIME;
+
+// Times are kept task by task: pair_index alone knows where one lies. A deadline is 0 for a task without, and so is a
+// release, the not-before instant of a task.
 #[repr(C)]
 pub struct Plan {
     pub types: usize,
@@ -34,6 +37,7 @@ pub struct Plan {
     pub wcet: [u32; MOST_PAIRS],
     pub predecessors: [u64; MOST_TASKS],
     pub deadlines: [u32; MOST_TASKS],
+    pub releases: [u32; MOST_TASKS],
 }
 
 // The execution order and the chosen type of each task: the first `len` entries of two arrays.
@@ -62,6 +66,7 @@ pub fn no_plan() -> Plan
         wcet: [0; MOST_PAIRS],
         predecessors: [0; MOST_TASKS],
         deadlines: [0; MOST_TASKS],
+        releases: [0; MOST_TASKS],
     }
 }
 
@@ -115,12 +120,26 @@ pub fn predecessors_of(predecessors: &[u64; MOST_TASKS], t: usize) -> u64
     predecessors[t]
 }
 
-// The deadline of task t, 0 for none; none past the last task.
-pub fn deadline_of(deadlines: &[u32; MOST_TASKS], t: usize) -> u32
-    ensures { λ r. ⌜ r ≡ deadlineOf (now (deadlines .entry)) t ⌝ }
+// The instant of task t, from one for each task; 0 for none, and past the last task.
+fn instant_of(instants: &[u32; MOST_TASKS], t: usize) -> u32
+    ensures { λ r. ⌜ r ≡ instantOf (now (instants .entry)) t ⌝ }
 {
     if MOST_TASKS <= t {
         return 0;
     }
-    deadlines[t]
+    instants[t]
+}
+
+// The deadline of task t.
+pub fn deadline_of(deadlines: &[u32; MOST_TASKS], t: usize) -> u32
+    ensures { λ r. ⌜ r ≡ deadlineOf (now (deadlines .entry)) t ⌝ }
+{
+    instant_of(deadlines, t)
+}
+
+// The not-before instant of task t.
+pub fn release_of(releases: &[u32; MOST_TASKS], t: usize) -> u32
+    ensures { λ r. ⌜ r ≡ releaseOf (now (releases .entry)) t ⌝ }
+{
+    instant_of(releases, t)
 }

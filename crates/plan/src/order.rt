@@ -110,6 +110,7 @@ pub fn check(p: Plan, c: Constraint) -> Verdict
         &p.wcet,
         &p.predecessors,
         &p.deadlines,
+        &p.releases,
     ) {
         return refused(8, 0);
     }

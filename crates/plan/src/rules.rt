@@ -3,16 +3,17 @@ ghost use mathlib.Core.Path.{_≡_};
 ghost use Prim.Native.Nat.{_<_, _≤_};
 ghost use Rattle.task_set.specs.Bounded.{all};
 ghost use Rattle.plan.specs.Refusals.{planOf};
-ghost use Rattle.plan.specs.Rules.{countsOk, deadlineOk, mostPairs, mostTasks, mostTypes, planOk, predecessorsOk, unitsOk};
+ghost use Rattle.plan.specs.Rules.{countsOk, instantOk, mostPairs, mostTasks, mostTypes, planOk, predecessorsOk, unitsOk};
 ghost use Rattle.plan.specs.Steps.{noTypeFrom, pairFits, pairFitsAt, restOk, typesOk};
 use crate::LATEST_DEADLINE;
+use crate::LATEST_RELEASE;
 use crate::LONGEST_TIME;
 use crate::MOST_PAIRS;
 use crate::MOST_TASKS;
 use crate::MOST_TYPES;
 use crate::MOST_UNITS;
 use crate::Plan;
-use crate::deadline_of;
+use crate::instant_of;
 use crate::is_usable;
 use crate::predecessors_of;
 
@@ -118,20 +119,21 @@ fn all_tasks_ok<'a>(
     ok
 }
 
-fn deadline_ok(tasks: usize, deadlines: &[u32; MOST_TASKS], t: usize) -> bool
-    ensures { λ r. ⌜ r ≡ deadlineOk tasks (now (deadlines .entry)) t ⌝ }
+// Whether task number t has none of these instants, or is a task of the plan and has one that is not too late.
+fn instant_ok(tasks: usize, latest: u32, instants: &[u32; MOST_TASKS], t: usize) -> bool
+    ensures { λ r. ⌜ r ≡ instantOk tasks latest (now (instants .entry)) t ⌝ }
 {
-    let d = deadline_of(deadlines, t);
-    (d == 0) | ((t < tasks) & (d <= LATEST_DEADLINE))
+    let i = instant_of(instants, t);
+    (i == 0) | ((t < tasks) & (i <= latest))
 }
 
-fn all_deadlines_ok(tasks: usize, deadlines: &[u32; MOST_TASKS]) -> bool
-    ensures { λ r. ⌜ r ≡ all mostTasks (deadlineOk tasks (now (deadlines .entry))) ⌝ }
+fn all_instants_ok(tasks: usize, latest: u32, instants: &[u32; MOST_TASKS]) -> bool
+    ensures { λ r. ⌜ r ≡ all mostTasks (instantOk tasks latest (now (instants .entry))) ⌝ }
 {
     let mut ok = true;
     let mut t = 0;
     while t < MOST_TASKS {
-        ok = ok & deadline_ok(tasks, deadlines, t);
+        ok = ok & instant_ok(tasks, latest, instants, t);
         t += 1;
     }
     ok
@@ -146,10 +148,11 @@ pub fn rules_hold<'a>(
     wcet: &'a [u32; MOST_PAIRS],
     predecessors: &'a [u64; MOST_TASKS],
     deadlines: &'a [u32; MOST_TASKS],
+    releases: &'a [u32; MOST_TASKS],
 ) -> bool
     ensures { λ r. ⌜ r ≡ planOk
         (planOf types (now (units .entry)) tasks (now (bcet .entry)) (now (wcet .entry)) (now (predecessors .entry))
-        (now (deadlines .entry))) ⌝ }
+        (now (deadlines .entry)) (now (releases .entry))) ⌝ }
 {
     if !counts_ok(types, tasks) {
         return false;
@@ -157,7 +160,8 @@ pub fn rules_hold<'a>(
     all_units_ok(types, units)
         & (all_pairs_fit(bcet, wcet)
             & all_tasks_ok(types, tasks, wcet, predecessors)
-            & all_deadlines_ok(tasks, deadlines))
+            & (all_instants_ok(tasks, LATEST_DEADLINE, deadlines)
+                & all_instants_ok(tasks, LATEST_RELEASE, releases)))
 }
 
 // Whether the plan breaks no rule: 8 alone.
@@ -174,5 +178,6 @@ pub fn plan_ok(p: Plan) -> bool
         &p.wcet,
         &p.predecessors,
         &p.deadlines,
+        &p.releases,
     )
 }

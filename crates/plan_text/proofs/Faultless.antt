@@ -8,21 +8,21 @@ use borrow.Author.Tests.{ltb-true, not-false}
 use Rattle.task_set.proofs.Truth.{and-left, and-right}
 use Rattle.plan.specs.Rules.{mostTypes, mostTasks}
 use Rattle.plan_text.specs.declared.Line.{Line}
-use Rattle.plan_text.specs.declared.Line.the-variants.{Units, Times, Arrow, Deadline, Choice}
-use Rattle.plan_text.specs.Reading.{Reading, kindOf, isType, isTask, outOfRange, atOdds, unknown, repeated, firstFault, lineFault}
+use Rattle.plan_text.specs.declared.Line.the-variants.{Units, Times, Arrow, Deadline, Release, Choice}
+use Rattle.plan_text.specs.Reading.{Reading, kindOf, number, isType, isTask, outOfRange, atOdds, unknown, repeated, firstFault, lineFault}
 
 -- it passes each test
 pub record Passed (r : Reading) (line : Line) : Type 0 where
   pub range : outOfRange line ≡ false
   pub known : unknown (r .plan .types) (r .seen .timed) line ≡ false
-  pub new : repeated (r .plan .wcet) (r .plan .predecessors) (r .plan .deadlines) (r .seen .listed) line ≡ false
+  pub new : repeated (r .plan .wcet) (r .plan .predecessors) (r .plan .deadlines) (r .seen) line ≡ false
 
 pub passed : (r : Reading) (line : Line) → lineFault r line ≡ 0 → Passed r line
 unfolding firstFault
 passed r line e = go (outOfRange line) (atOdds line) (ltb (kindOf line) (r .seen .kind)) _ _ refl refl refl e
   where
     go : (a b c d f : Bool) → outOfRange line ≡ a → unknown (r .plan .types) (r .seen .timed) line ≡ d
-        → repeated (r .plan .wcet) (r .plan .predecessors) (r .plan .deadlines) (r .seen .listed) line ≡ f
+        → repeated (r .plan .wcet) (r .plan .predecessors) (r .plan .deadlines) (r .seen) line ≡ f
         → _≡_ {A = ℕ} (cond a 3 (cond b 4 (cond c 5 (cond d 6 (cond f 7 0))))) 0 → Passed r line
     go true b c d f p q s e = absurd (omega arith)
     go false true c d f p q s e = absurd (omega arith)
@@ -48,8 +48,14 @@ module _ {line : Line} (e : outOfRange line ≡ false) where
   pub arrow-to : {from to : ℕ} → line ≡ Arrow from to → to < mostTasks
   arrow-to {from} {to} f = ltb-true to mostTasks (and-right (isTask from) _ (not-false _ (in-range f)))
 
-  pub deadline-task : {t d : ℕ} → line ≡ Deadline t d → t < mostTasks
-  deadline-task {t} f = ltb-true t mostTasks (and-left (isTask t) _ (not-false _ (in-range f)))
-
   pub choice-task : {t k : ℕ} → line ≡ Choice t k → t < mostTasks
   choice-task {t} f = ltb-true t mostTasks (and-left (isTask t) _ (not-false _ (in-range f)))
+
+-- the first number of a line is below the number of tasks
+pub first-low : (line : Line) → outOfRange line ≡ false → number line 0 < mostTasks
+first-low (Units k n) e = let l = units-type {line = Units k n} e {n = n} refl in omega arith
+first-low (Times t k b w) e = times-pair {line = Times t k b w} e {k = k} {b = b} {w = w} refl .0
+first-low (Arrow from to) e = ltb-true from mostTasks (and-left (isTask from) _ (not-false _ e))
+first-low (Deadline t d) e = ltb-true t mostTasks (and-left (isTask t) _ (not-false _ e))
+first-low (Release t i) e = ltb-true t mostTasks (and-left (isTask t) _ (not-false _ e))
+first-low (Choice t k) e = choice-task {line = Choice t k} e {k = k} refl

@@ -10,7 +10,7 @@ use Rattle.task_set.proofs.Bounded.{count-cong, count-none, count-short, count-
 use Rattle.task_set.proofs.Members.{has-none, has-insert}
 use Rattle.plan.specs.Rules.{mostTasks}
 use Rattle.plan_text.specs.declared.Line.{Line}
-use Rattle.plan_text.specs.declared.Line.the-variants.{Units, Times, Arrow, Deadline, Choice}
+use Rattle.plan_text.specs.declared.Line.the-variants.{Units, Times, Arrow, Deadline, Release, Choice}
 use Rattle.plan_text.specs.Reading.{Reading, nothing, isKind, counted, lineFault, lineDone}
 use Rattle.plan_text.proofs.Faultless.{passed, choice-task}
 
@@ -35,6 +35,7 @@ counted-more r (Units k n) f e = e
 counted-more r (Times t k b w) f e = e
 counted-more r (Arrow from to) f e = e
 counted-more r (Deadline t d) f e = e
+counted-more r (Release t i) f e = e
 counted-more r (Choice t k) f e = let g = new-task r t k f in omega (arith, one-more (r .seen .listed) t (g .0) (g .1))
 
 pub room : (r : Reading) {line : Line} → lineFault r line ≡ 0 → Counted r

@@ -14,12 +14,12 @@ use Rattle.task_set.proofs.Truth.{clash, by-test, and-right, or-cases}
 use Rattle.task_set.proofs.Members.{has-none, has-insert}
 use Rattle.plan.specs.Rules.{mostTypes, mostTasks, mostPairs, pairIndex, timeOf}
 use Rattle.plan_text.specs.declared.Line.{Line}
-use Rattle.plan_text.specs.declared.Line.the-variants.{Units, Times, Arrow, Deadline, Choice}
+use Rattle.plan_text.specs.declared.Line.the-variants.{Units, Times, Arrow, Deadline, Release, Choice}
 use Rattle.plan_text.specs.declared.LineForm.{LineForm}
 use Rattle.plan_text.specs.declared.LineForm.the-variants.{Of, NoForm}
 use Rattle.plan_text.specs.declared.Answer.{Answer}
 use Rattle.plan_text.specs.Form.{newline, split, lineOf}
-use Rattle.plan_text.specs.Reading.{Reading, nothing, kindU, kindT, kindA, kindD, kindC, number, isKind, counted, named, stored, lineFault, lineDone}
+use Rattle.plan_text.specs.Reading.{Reading, nothing, kindU, kindT, kindA, kindD, kindN, kindC, number, isKind, counted, named, stored, lineFault, lineDone}
 use Rattle.plan_text.specs.Text.{mostBytes, answerOf, answerBy, refused, readLines, readText}
 use Rattle.plan_text.proofs.Faultless.{Passed, passed, times-pair}
 use Rattle.plan_text.proofs.Room.{counted-ge}
@@ -39,6 +39,7 @@ pub record Unused (a : Answer) : Type 0 where
   pub worst : Outside (a .plan .tasks) (a .plan .types) (a .plan .wcet)
   pub predecessors : Past (a .plan .tasks) (a .plan .predecessors)
   pub deadlines : Past (a .plan .tasks) (a .plan .deadlines)
+  pub releases : Past (a .plan .tasks) (a .plan .releases)
   pub order : Past (a .constraint .len) (a .constraint .order)
   pub chosen : Past (a .constraint .len) (a .constraint .chosen)
 
@@ -62,6 +63,7 @@ none number place =
       worst = no-time;
       predecessors = zero-tasks;
       deadlines = zero-tasks;
+      releases = zero-tasks;
       order = zero-tasks;
       chosen = zero-tasks;
     }
@@ -91,19 +93,21 @@ record Fits (r : Reading) (line : Line) : Type 0 where
   pair : isKind line kindT ≡ true → (number line 0 < mostTasks) × (number line 1 < mostTypes) × (number line 1 < r .plan .types)
   to : isKind line kindA ≡ true → has (r .seen .timed) (number line 1) ≡ true
   due : isKind line kindD ≡ true → has (r .seen .timed) (number line 0) ≡ true
+  released : isKind line kindN ≡ true → has (r .seen .timed) (number line 0) ≡ true
 
 never : {P : Type 0} → false ≡ true → P
 never e = absurd (clash e refl)
 
 fits : (r : Reading) (line : Line) → Passed r line → Fits r line
-fits r (Units k n) p = record { next = λ e. eqb-true k _ (not-false _ (p .known)); pair = never; to = never; due = never }
+fits r (Units k n) p = record { next = λ e. eqb-true k _ (not-false _ (p .known)); pair = never; to = never; due = never; released = never }
 fits r (Times t k b w) p =
     let l = times-pair {line = Times t k b w} (p .range) {t = t} {k = k} {b = b} {w = w} refl in
-    record { next = never; pair = λ e. (l .0, l .1, leb-false (r .plan .types) k (p .known)); to = never; due = never }
+    record { next = never; pair = λ e. (l .0, l .1, leb-false (r .plan .types) k (p .known)); to = never; due = never; released = never }
 fits r (Arrow from to) p =
-    record { next = never; pair = never; to = λ e. and-right (has (r .seen .timed) from) _ (not-false _ (p .known)); due = never }
-fits r (Deadline t d) p = record { next = never; pair = never; to = never; due = λ e. not-false _ (p .known) }
-fits r (Choice t k) p = record { next = never; pair = never; to = never; due = never }
+    record { next = never; pair = never; to = λ e. and-right (has (r .seen .timed) from) _ (not-false _ (p .known)); due = never; released = never }
+fits r (Deadline t d) p = record { next = never; pair = never; to = never; due = λ e. not-false _ (p .known); released = never }
+fits r (Release t i) p = record { next = never; pair = never; to = never; due = never; released = λ e. not-false _ (p .known) }
+fits r (Choice t k) p = record { next = never; pair = never; to = never; due = never; released = never }
 
 -- what was read leaves them so, and a task with a T line is one of the tasks
 pub record Kept (r : Reading) : Type 0 where
@@ -151,6 +155,8 @@ module _ (r : Reading) (line : Line) (f : Fits r line) (h : Kept r) where
               (λ e. omega (arith, more-tasks, h .timed (number line 1) (f .to e))) more-tasks (u .predecessors);
           deadlines = past-set (isKind line kindD) (p .deadlines) (number line 0) (number line 1)
               (λ e. omega (arith, more-tasks, h .timed (number line 0) (f .due e))) more-tasks (u .deadlines);
+          releases = past-set (isKind line kindN) (p .releases) (number line 0) (number line 1)
+              (λ e. omega (arith, more-tasks, h .timed (number line 0) (f .released e))) more-tasks (u .releases);
           order = past-set (isKind line kindC) (c .order) (c .len) (number line 0) (λ e. rw e (omega arith)) len (u .order);
           chosen = past-set (isKind line kindC) (c .chosen) (c .len) (number line 1) (λ e. rw e (omega arith)) len (u .chosen);
         };

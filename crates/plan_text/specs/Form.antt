@@ -5,7 +5,7 @@ use Prim.Native.Nat.{ℕ, _+_, _-_, _*_}
 use lib.Dec.{eqb}
 use lib.ListN.{length, getD}
 use Rattle.plan.specs.Rules.{between}
-use Rattle.plan_text.specs.declared.Line.the-variants.{Units, Times, Arrow, Deadline, Choice}
+use Rattle.plan_text.specs.declared.Line.the-variants.{Units, Times, Arrow, Deadline, Release, Choice}
 use Rattle.plan_text.specs.declared.LineForm.{LineForm}
 use Rattle.plan_text.specs.declared.LineForm.the-variants.{Of, NoForm}
 
@@ -55,16 +55,17 @@ valueFrom v (b ∷ s) = valueFrom (v * 10 + digitValue b) s
 
 -- ---- a line: "a letter, then decimal fields, each after one tab"
 
--- U, type, count of units; T, task, type, best, worst; A, from, to; D, task, instant (document 02, 2); C, task, type:
--- by the letter, how many fields there are, and their values
+-- U, type, count of units; T, task, type, best, worst; A, from, to; D, task, instant (document 02, 2); N, task, instant
+-- (document 02, 6); C, task, type: by the letter, how many fields there are, and their values
 unfoldable pub formOf : ℕ → ℕ → (ℕ → ℕ) → LineForm
 formOf letter n v =
     cond (eqb letter 85 && eqb n 2) (Of (Units (v 0) (v 1)))
     (cond (eqb letter 84 && eqb n 4) (Of (Times (v 0) (v 1) (v 2) (v 3)))
     (cond (eqb letter 65 && eqb n 2) (Of (Arrow (v 0) (v 1)))
     (cond (eqb letter 68 && eqb n 2) (Of (Deadline (v 0) (v 1)))
+    (cond (eqb letter 78 && eqb n 2) (Of (Release (v 0) (v 1)))
     (cond (eqb letter 67 && eqb n 2) (Of (Choice (v 0) (v 1)))
-    NoForm))))
+    NoForm)))))
 
 abbrev pub lineOfParts : List (List ℕ) → LineForm
 lineOfParts [] = NoForm

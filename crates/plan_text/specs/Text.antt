@@ -22,7 +22,7 @@ refused number place = record { number = number; place = place; plan = noPlan; c
 abbrev pub answerOf : Reading → Answer
 answerOf r = record { number = 0; place = 0; plan = r .plan; constraint = r .constraint }
 
--- the answer by line k and, where it has no fault, by what follows it; 2 is "not one of the .. line forms", which are five with D
+-- the answer by line k and, where it has no fault, by what follows it; 2 is "not one of the .. line forms", which are six with D and N
 abbrev pub answerBy : LineForm → ℕ → Reading → (Reading → Answer) → Answer
 answerBy NoForm k r further = refused 2 k
 answerBy (Of line) k r further =

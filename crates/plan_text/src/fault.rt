@@ -1,10 +1,11 @@
 // The faults 3 to 7 of a line.
 ghost use mathlib.Core.Path.{_≡_};
 ghost use mathlib.Core.Bool.{cond};
-ghost use Rattle.plan_text.specs.Reading.{atOdds, firstFault, isDeadline, isTask, isTime, isType, kindOf, outOfRange, repeated, unknown};
+ghost use Rattle.plan_text.specs.Reading.{atOdds, firstFault, isDeadline, isRelease, isTask, isTime, isType, kindOf, outOfRange, repeated, unknown};
 use crate::Line;
 use crate::Seen;
 use plan::LATEST_DEADLINE;
+use plan::LATEST_RELEASE;
 use plan::LONGEST_TIME;
 use plan::MOST_PAIRS;
 use plan::MOST_TASKS;
@@ -20,7 +21,9 @@ pub const KIND_A: u32 = 2;
 
 pub const KIND_D: u32 = 3;
 
-pub const KIND_C: u32 = 4;
+pub const KIND_N: u32 = 4;
+
+pub const KIND_C: u32 = 5;
 
 pub fn kind_of(line: Line) -> u32
     ensures { λ r. ⌜ r ≡ kindOf line ⌝ }
@@ -30,6 +33,7 @@ pub fn kind_of(line: Line) -> u32
         Line::Times(_, _, _, _) => KIND_T,
         Line::Arrow(_, _) => KIND_A,
         Line::Deadline(_, _) => KIND_D,
+        Line::Release(_, _) => KIND_N,
         Line::Choice(_, _) => KIND_C,
     }
 }
@@ -58,6 +62,12 @@ fn is_deadline(x: u32) -> bool
     (1 <= x) & (x <= LATEST_DEADLINE)
 }
 
+fn is_release(x: u32) -> bool
+    ensures { λ r. ⌜ r ≡ isRelease x ⌝ }
+{
+    x <= LATEST_RELEASE
+}
+
 fn out_of_range(line: Line) -> bool
     ensures { λ r. ⌜ r ≡ outOfRange line ⌝ }
 {
@@ -66,6 +76,7 @@ fn out_of_range(line: Line) -> bool
         Line::Times(t, k, b, w) => !(is_task(t) & (is_type(k) & (is_time(b) & is_time(w)))),
         Line::Arrow(from, to) => !(is_task(from) & is_task(to)),
         Line::Deadline(t, d) => !(is_task(t) & is_deadline(d)),
+        Line::Release(t, i) => !(is_task(t) & is_release(i)),
         Line::Choice(t, k) => !(is_task(t) & is_type(k)),
     }
 }
@@ -78,6 +89,7 @@ fn at_odds(line: Line) -> bool
         Line::Times(_, _, b, w) => w < b,
         Line::Arrow(from, to) => from == to,
         Line::Deadline(_, _) => false,
+        Line::Release(_, _) => false,
         Line::Choice(_, _) => false,
     }
 }
@@ -92,6 +104,7 @@ fn unknown(types: usize, timed: u64, line: Line) -> bool
             !(task_set::contains(timed, from as usize) & task_set::contains(timed, to as usize))
         }
         Line::Deadline(t, _) => !task_set::contains(timed, t as usize),
+        Line::Release(t, _) => !task_set::contains(timed, t as usize),
         Line::Choice(t, _) => !task_set::contains(timed, t as usize),
     }
 }
@@ -100,11 +113,11 @@ fn repeated<'a>(
     wcet: &'a [u32; MOST_PAIRS],
     predecessors: &'a [u64; MOST_TASKS],
     deadlines: &'a [u32; MOST_TASKS],
-    listed: u64,
+    seen: Seen,
     line: Line,
 ) -> bool
     ensures { λ r. ⌜ r
-        ≡ repeated (now (wcet .entry)) (now (predecessors .entry)) (now (deadlines .entry)) listed line ⌝ }
+        ≡ repeated (now (wcet .entry)) (now (predecessors .entry)) (now (deadlines .entry)) seen line ⌝ }
 {
     match line {
         Line::Units(_, _) => false,
@@ -114,7 +127,8 @@ fn repeated<'a>(
             task_set::contains(before, from as usize)
         }
         Line::Deadline(t, _) => plan::deadline_of(deadlines, t as usize) != 0,
-        Line::Choice(t, _) => task_set::contains(listed, t as usize),
+        Line::Release(t, _) => task_set::contains(seen.released, t as usize),
+        Line::Choice(t, _) => task_set::contains(seen.listed, t as usize),
     }
 }
 
@@ -143,7 +157,7 @@ pub fn line_fault<'a>(
     let odd = at_odds(line);
     let late = kind_of(line) < seen.kind;
     let absent = unknown(types, seen.timed, line);
-    let again = repeated(wcet, predecessors, deadlines, seen.listed, line);
+    let again = repeated(wcet, predecessors, deadlines, seen, line);
     let fault = unless(again, 7, 0);
     let fault = unless(absent, 6, fault);
     let fault = unless(late, 5, fault);

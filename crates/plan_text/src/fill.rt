@@ -4,11 +4,12 @@ ghost use mathlib.Core.Bool.{cond, false};
 ghost use Prim.Native.Nat.{ℕ, _+_, _≤_, _<_, max};
 ghost use Rattle.task_set.specs.Sets.{insert};
 ghost use Rattle.plan.specs.Rules.{mostTasks, pairIndex, predecessorsOf};
-ghost use Rattle.plan_text.specs.Reading.{counted, isKind, kindA, kindC, kindD, kindOf, kindT, kindU, named, number, outOfRange, stored};
+ghost use Rattle.plan_text.specs.Reading.{counted, isKind, kindA, kindC, kindN, kindOf, kindT, kindU, named, number, outOfRange, stored};
 ghost use Rattle.plan_text.specs.Text.{mostBytes};
 use crate::Line;
 use crate::Seen;
 use crate::fault::KIND_C;
+use crate::fault::KIND_N;
 use crate::fault::KIND_T;
 use crate::fault::kind_of;
 use plan::MOST_PAIRS;
@@ -24,7 +25,22 @@ fn first(line: Line) -> u32
         Line::Times(t, _, _, _) => t,
         Line::Arrow(from, _) => from,
         Line::Deadline(t, _) => t,
+        Line::Release(t, _) => t,
         Line::Choice(t, _) => t,
+    }
+}
+
+// The second number of a line.
+fn second(line: Line) -> u32
+    ensures { λ r. ⌜ r ≡ number line 1 ⌝ }
+{
+    match line {
+        Line::Units(_, n) => n,
+        Line::Times(_, k, _, _) => k,
+        Line::Arrow(_, to) => to,
+        Line::Deadline(_, d) => d,
+        Line::Release(_, i) => i,
+        Line::Choice(_, k) => k,
     }
 }
 
@@ -51,14 +67,21 @@ fn named(tasks: u64, kind: u32, line: Line) -> u64
 
 pub fn seen(seen: Seen, line: Line) -> Seen
     ensures { λ r. ⌜ r
-        ≡ record { kind = kindOf line; timed = named line kindT (seen .timed); listed = named line kindC (seen .listed) } ⌝ }
+        ≡ record {
+          kind = kindOf line;
+          timed = named line kindT (seen .timed);
+          released = named line kindN (seen .released);
+          listed = named line kindC (seen .listed);
+        } ⌝ }
 {
     let kind = kind_of(line);
     let timed = named(seen.timed, KIND_T, line);
+    let released = named(seen.released, KIND_N, line);
     let listed = named(seen.listed, KIND_C, line);
     Seen {
         kind,
         timed,
+        released,
         listed,
     }
 }
@@ -117,13 +140,14 @@ pub fn predecessors(predecessors: &mut [u64; MOST_TASKS], line: Line)
     }
 }
 
-pub fn deadlines(deadlines: &mut [u32; MOST_TASKS], line: Line)
+// The instant that a line of this kind names for its task: a deadline, or a not-before instant.
+pub fn instants(instants: &mut [u32; MOST_TASKS], kind: u32, line: Line)
     requires { ⌜ outOfRange line ≡ false ⌝ }
-    ensures { λ _. ⌜ now (deadlines .exit) ≡ stored line kindD (now (deadlines .entry)) (number line 0) (number line 1) ⌝ }
+    ensures { λ _. ⌜ now (instants .exit) ≡ stored line kind (now (instants .entry)) (number line 0) (number line 1) ⌝ }
 {
-    if let Line::Deadline(t, d) = line {
-        let i = t as usize;
-        deadlines[i] = d;
+    if kind_of(line) == kind {
+        let t = first(line) as usize;
+        instants[t] = second(line);
     }
 }
 

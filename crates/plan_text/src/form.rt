@@ -135,6 +135,9 @@ fn form_of(letter: u8, f: Fields) -> LineForm
     if (letter == b'D') & (n == 2) {
         return LineForm::Of(Line::Deadline(v[0], v[1]));
     }
+    if (letter == b'N') & (n == 2) {
+        return LineForm::Of(Line::Release(v[0], v[1]));
+    }
     if (letter == b'C') & (n == 2) {
         return LineForm::Of(Line::Choice(v[0], v[1]));
     }

@@ -7,6 +7,8 @@ ghost use Rattle.plan_text.specs.Reading.{nothing};
 ghost use Rattle.plan_text.specs.Steps.{lineAt, partLength};
 ghost use Rattle.plan_text.specs.Text.{readText, refused};
 use fault::KIND_C;
+use fault::KIND_D;
+use fault::KIND_N;
 use fault::KIND_U;
 use fault::line_fault;
 use plan::Constraint;
@@ -23,12 +25,14 @@ const NEWLINE: u8 = b'\n';
 
 pub const MOST_BYTES: usize = 32768;
 
-// A line of one of the five forms: U, type, count; T, task, type, best, worst; A, from, to; D, task, instant; C, task, type.
+// A line of one of the six forms: U, type, count; T, task, type, best, worst; A, from, to; D, task, instant; N, task, instant;
+// C, task, type.
 pub enum Line {
     Units(u32, u32),
     Times(u32, u32, u32, u32),
     Arrow(u32, u32),
     Deadline(u32, u32),
+    Release(u32, u32),
     Choice(u32, u32),
 }
 
@@ -38,10 +42,11 @@ pub enum LineForm {
     NoForm,
 }
 
-// Of the lines before: the kind of the last, the tasks with a T line, and the tasks with a C line.
+// Of the lines before: the kind of the last, and the tasks with a T line, with an N line and with a C line.
 pub struct Seen {
     pub kind: u32,
     pub timed: u64,
+    pub released: u64,
     pub listed: u64,
 }
 
@@ -85,6 +90,7 @@ fn no_line() -> Seen
     Seen {
         kind: 0,
         timed: 0,
+        released: 0,
         listed: 0,
     }
 }
@@ -141,7 +147,8 @@ pub fn read(text: &[u8]) -> Answer
         fill::times(&mut p.bcet, 2, line);
         fill::times(&mut p.wcet, 3, line);
         fill::predecessors(&mut p.predecessors, line);
-        fill::deadlines(&mut p.deadlines, line);
+        fill::instants(&mut p.deadlines, KIND_D, line);
+        fill::instants(&mut p.releases, KIND_N, line);
         fill::entries(c.len, &mut c.order, 0, line);
         fill::entries(c.len, &mut c.chosen, 1, line);
         c.len = fill::counted(c.len, KIND_C, line);

@@ -4,7 +4,7 @@ use mathlib.Core.Bool.{Bool, true, false, cond, _&&_, _||_, or-true, or-false, a
 use mathlib.Core.List.{List}
 use mathlib.Core.Option.{Option, none, some}
 use Prim.Native.Nat.{ℕ, zero, suc, _+_, _≤_, _<_, zero-le}
-use native.Mathlib.Nat.{le-trans, lt-trans, le-of-lt, lt-of-lt-of-le, le-refl, lt-suc-self, not-suc-le-zero}
+use native.Mathlib.Nat.{le-trans, le-of-eq, lt-trans, le-of-lt, lt-of-lt-of-le, le-refl, lt-suc-self, not-suc-le-zero}
 use native.Mathlib.Omega.{arith}
 use borrow.Author.Tests.{leb-true, leb-false, le-leb, lt-leb, ltb-true, ltb-false, lt-ltb, le-ltb, eq-eqb, ne-eqb, eqb-true, eqb-false}
 use lib.Dec.{eqb, leb, ltb, leb·suc-suc}
@@ -15,12 +15,13 @@ use Rattle.task_set.proofs.Truth.{by-test, same, implies-intro, implies-elim, n
 use Rattle.task_set.proofs.Bounded.{below-suc, other-below, all-intro, all-elim, count-cong}
 use Rattle.plan.specs.declared.Plan.{Plan}
 use Rattle.plan.specs.declared.Constraint.{Constraint}
-use Rattle.plan.specs.Rules.{predecessorsOf}
+use Rattle.plan.specs.Rules.{predecessorsOf, releaseOf}
 use Rattle.plan.proofs.Accepted.{Accepted}
 use Rattle.dispatch_theory.proofs.Greedy.{ends, ordered, after-le}
 use Rattle.dispatch_theory.proofs.Rules.{holds, ruleGate}
+use Rattle.dispatch_theory.proofs.Units.{open-now}
 use Rattle.dispatch_theory.proofs.Reorder.{count-upto}
-use Rattle.runs.specs.Running.{Entry, entries, typeOf, Notes, given, hasStarted, hasFinished, isRunning, cleared, busy, mayStart, begin, dispatch, advance, step, blank, opening, timeUp, timed}
+use Rattle.runs.specs.Running.{Entry, entries, typeOf, Notes, given, hasStarted, hasFinished, isRunning, cleared, released, busy, mayStart, begin, dispatch, advance, step, blank, opening, timeUp, timed}
 use Rattle.runs.proofs.Positions.{taskAt, position, position-entry, position-low, entry-position, type-entry, count-by-position}
 use Rattle.runs.proofs.Orders.{orderOf, Lasting, durations, startsOf, startOf, greedy, entryOf, entries-from, entries-end}
 
@@ -158,8 +159,10 @@ module _ {p : Plan} {c : Constraint} (a : Accepted p c) (d : ℕ → ℕ) (posit
         uses t = isRunning (walked i k) t && eqb (typeOf c t) y
 
     gate-entry : mayStart p c (walked i k) (entryOf c k) ≡ ruleGate (orderOf p c) F k i
-    unfolding mayStart ruleGate
-    gate-entry = ap₂ (λ (x : Bool) (y : ℕ). x && ltb y (getD (p .units) (type k) 0)) cleared-entry (busy-entry (type k))
+    unfolding mayStart released ruleGate
+    gate-entry =
+        ap₂ (λ (x : Bool) (y : ℕ). x && (leb (releaseOf (p .releases) (taskAt c k)) i && ltb y (getD (p .units) (type k) 0)))
+        cleared-entry (busy-entry (type k))
 
     may-entry : mayStart p c (walked i k) (entryOf c k) ≡ leb (S k) i
     may-entry = gate-entry ∙ by-test (leb (S k) i) open-now shut-now
@@ -276,6 +279,12 @@ module _ {p : Plan} {c : Constraint} (a : Accepted p c) (d : ℕ → ℕ) (posit
       go : More → goal
       go more = by-test (ltb (S k) i) (earlier more) (λ f. by-test (leb (S k) i) (now more f) (later f))
 
+  -- no task starts before its instant: at its start its gate is open
+  pub start-released : (t : ℕ) → t < p .tasks → releaseOf (p .releases) t ≤ startsOf p c d (position c t)
+  start-released t l =
+      le-trans (le-of-eq (ap (releaseOf (p .releases)) (sym (entry-position a t l))))
+      (open-now (orderOf p c) (greedy a d) (position c t) (position-low a t l) .released)
+
   -- ---- the run
 
   opened : blank ≡ walked 0 0
@@ -350,6 +359,15 @@ module _ {p : Plan} {c : Constraint} (a : Accepted p c) (d : ℕ → ℕ) (posit
       ap (λ (n : Notes). n .finish t) (timed-closed i)
       ∙ rw (lt-ltb t (p .tasks) l)
       (rw (once-some (ours t (leb (at t) i)) (at t) s (sym (ap (λ (n : Notes). n .start t) (timed-closed i)) ∙ e)) refl)
+
+  -- and it does not start before its instant
+  pub start-not-before : (i t s : ℕ) → t < p .tasks → timed p c d i .start t ≡ some s → releaseOf (p .releases) t ≤ s
+  start-not-before i t s l e =
+      omega (
+        arith,
+        start-released t l,
+        once-some (ours t (leb (at t) i)) (at t) s (sym (ap (λ (n : Notes). n .start t) (timed-closed i)) ∙ e),
+      )
 
   -- the task at a position starts at its greedy start
   pub timed-start : (i k : ℕ) → k < p .tasks → timed p c d i .start (taskAt c k) ≡ once (leb (S k) i) (S k)

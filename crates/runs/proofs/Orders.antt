@@ -7,21 +7,23 @@ use Rattle.task_set.specs.Sets.{has}
 use Rattle.task_set.proofs.Tables.{drop-tabulate, drop-all}
 use Rattle.plan.specs.declared.Plan.{Plan}
 use Rattle.plan.specs.declared.Constraint.{Constraint}
-use Rattle.plan.specs.Rules.{predecessorsOf}
+use Rattle.plan.specs.Rules.{predecessorsOf, releaseOf}
 use Rattle.plan.proofs.Accepted.{Accepted}
+use Rattle.dispatch_theory.proofs.Sums.{greatest-le}
 use Rattle.dispatch_theory.proofs.Gate.{Lawful}
 use Rattle.dispatch_theory.proofs.Greedy.{Greedy}
 use Rattle.dispatch_theory.proofs.Rules.{Order, ruleGate, rules-lawful}
 use Rattle.dispatch_theory.proofs.Starts.{starts, exists}
-use Rattle.runs.specs.Running.{Entry, entries}
+use Rattle.runs.specs.Running.{Entry, entries, greatestRelease}
 use Rattle.runs.proofs.Positions.{taskAt, typeAt, position}
 
--- which earlier position a position waits for, its type, and how many units a type has
+-- which earlier position a position waits for, its not-before instant, its type, and how many units a type has
 abbrev pub orderOf : Plan → Constraint → Order
 orderOf p c =
     record {
       size = p .tasks;
       waits = λ k j. has (predecessorsOf (p .predecessors) (taskAt c k)) (taskAt c j);
+      release = λ k. releaseOf (p .releases) (taskAt c k);
       type = typeAt c;
       units = λ k. getD (p .units) k 0;
     }
@@ -31,7 +33,7 @@ abbrev pub holdOf : Plan → Constraint → ℕ → ℕ
 holdOf p c j = 0
 
 abbrev pub baseOf : Plan → ℕ
-baseOf p = 0
+baseOf p = greatestRelease p
 
 -- ---- times d by task number
 
@@ -55,7 +57,10 @@ abbrev pub finishOf : Plan → Constraint → (ℕ → ℕ) → ℕ → ℕ
 finishOf p c d t = startOf p c d t + d t
 
 pub lawful : {p : Plan} {c : Constraint} → Accepted p c → Lawful (ruleGate (orderOf p c)) (p .tasks) (holdOf p c) (baseOf p)
-lawful {p} {c} a = rules-lawful (orderOf p c) (λ k l. a .some-units (typeAt c k) (a .type k l))
+unfolding greatestRelease
+lawful {p} {c} a =
+    rules-lawful (orderOf p c) (baseOf p) (λ k l. a .some-units (typeAt c k) (a .type k l))
+    (λ k l. greatest-le (p .tasks) (releaseOf (p .releases)) (taskAt c k) (a .task k l))
 
 pub greedy : {p : Plan} {c : Constraint} → Accepted p c → (d : ℕ → ℕ)
     → Greedy (ruleGate (orderOf p c)) (p .tasks) (durations c d) (startsOf p c d)

@@ -2,7 +2,7 @@
 use mathlib.Core.Path.{_≡_, refl, sym, ap, ap₂, _∙_}
 use mathlib.Core.Bool.{Bool, true, false, _&&_, not, and-comm}
 use mathlib.Core.Option.{some}
-use Prim.Native.Nat.{ℕ, _+_, _-_, _≤_, _<_, zero-le}
+use Prim.Native.Nat.{ℕ, _+_, _-_, _≤_, _<_}
 use native.Mathlib.Nat.{le-trans, le-of-eq}
 use native.Mathlib.Omega.{arith}
 use borrow.Author.Tests.{leb-true, leb-false, le-leb, lt-ltb, le-ltb, not-true}
@@ -20,7 +20,7 @@ use Rattle.dispatch_theory.proofs.Sums.{sum-cong, sum-zero, greatest-lub, great
 use Rattle.dispatch_theory.proofs.Reorder.{count-upto, greatest-reorder}
 use Rattle.dispatch_theory.proofs.Greedy.{ends, busy as theory-busy, overrun, response-bound, response-overrun as theory-overrun}
 use Rattle.dispatch_theory.proofs.Rules.{units-kept}
-use Rattle.runs.specs.Running.{typeOf, orZero, hasStarted, hasFinished, isRunning, busy, timed, over, horizon, ended, response}
+use Rattle.runs.specs.Running.{typeOf, orZero, hasStarted, hasFinished, isRunning, busy, timed, over, greatestRelease, horizon, ended, response}
 use Rattle.runs.proofs.Positions.{taskAt, typeAt, position, position-entry, position-low, entry-position, type-entry, by-position, count-by-position}
 use Rattle.runs.proofs.Orders.{orderOf, holdOf, Lasting, durations, startsOf, startOf, finishOf, lawful, greedy}
 use Rattle.runs.proofs.Closed.{timed-closed, started-timed, finished-timed}
@@ -125,10 +125,11 @@ module _ {p : Plan} {c : Constraint} (a : Accepted p c) (d : ℕ → ℕ) (posit
       each : (j : ℕ) → j < p .tasks → uses (taskAt c j) ≡ eqb (typeAt c j) k && (leb (S j) i && ltb i (ends S D j))
       each j l = ap₂ _&&_ (held-entry i j l) (ap (λ (x : ℕ). eqb x k) (type-entry a j l)) ∙ and-comm _ (eqb (typeAt c j) k)
 
-  -- until the run is over, some task runs after each walk
-  pub never-idle : (i : ℕ) → over p (timed p c d i) ≡ false → (t : ℕ) × (t < p .tasks) × (isRunning (timed p c d i) t ≡ true)
+  -- from the greatest not-before instant on, until the run is over, some task runs after each walk
+  pub never-idle : (i : ℕ) → greatestRelease p ≤ i → over p (timed p c d i) ≡ false
+      → (t : ℕ) × (t < p .tasks) × (isRunning (timed p c d i) t ≡ true)
   unfolding over
-  never-idle i e = (
+  never-idle i b e = (
     taskAt c (r .0),
     a .task (r .0) (r .1),
     held-entry i (r .0) (r .1) ∙ and-both (le-leb _ i (r .2)) (lt-ltb i _ (omega (arith, r .3))),
@@ -145,7 +146,7 @@ module _ {p : Plan} {c : Constraint} (a : Accepted p c) (d : ℕ → ℕ) (posit
 
       r : (j : ℕ) × (j < p .tasks) × (S j ≤ i) × (i < S j + (D j + holdOf p c j))
       r =
-          theory-busy (lawful a) (greedy a d) i (position c (u .0)) zero-le (position-low a (u .0) (u .1))
+          theory-busy (lawful a) (greedy a d) i (position c (u .0)) b (position-low a (u .0) (u .1))
           (omega (arith, unfinished, ap (λ (x : ℕ). startOf p c d (u .0) + d x) (entry-position a (u .0) (u .1))))
 
 -- ---- times beyond those of another run

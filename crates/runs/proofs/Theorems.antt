@@ -10,17 +10,18 @@ use lib.Dec.{leb}
 use lib.ListN.{getD}
 use Rattle.plan.specs.declared.Plan.{Plan}
 use Rattle.plan.specs.declared.Constraint.{Constraint}
+use Rattle.plan.specs.Rules.{releaseOf}
 use Rattle.plan.specs.Refusals.{verdict}
 use Rattle.plan.proofs.Accepted.{Accepted, accepted}
 use Rattle.dispatch_theory.specs.Sums.{sum}
 use Rattle.dispatch_theory.proofs.Greedy.{Greedy}
 use Rattle.dispatch_theory.proofs.Rules.{ruleGate}
-use Rattle.runs.specs.Running.{entries, worst, Allowed, hasStarted, isRunning, busy, dispatch, advance, step, blank, opening, timeUp, timed, over, horizon, response, bound}
+use Rattle.runs.specs.Running.{entries, worst, Allowed, hasStarted, isRunning, busy, dispatch, advance, step, blank, opening, timeUp, timed, over, greatestRelease, horizon, response, bound}
 use Rattle.runs.specs.Progress.{stage, asFar}
 use Rattle.runs.specs.Journal.{journal, answers, acceptedCount, takenTime}
 use Rattle.runs.proofs.Positions.{taskAt, allowed-lasts, worst-lasts}
 use Rattle.runs.proofs.Orders.{Lasting, orderOf, durations, startsOf, greedy}
-use Rattle.runs.proofs.Closed.{start-finish, timed-start}
+use Rattle.runs.proofs.Closed.{start-finish, start-not-before, timed-start}
 use Rattle.runs.proofs.Compare.{as-far}
 use Rattle.runs.proofs.Response as response-laws
 use Rattle.runs.proofs.Dispatch.{dispatch-settled, timed-over-stays}
@@ -49,6 +50,11 @@ module _ (p : Plan) (c : Constraint) (ok : verdict p c .number ≡ 0) where
       → timed p c d i .finish t ≡ cond (leb (s + d t) i) (some (s + d t)) none
   finishes d w i t s l e = start-finish a d (allowed-lasts a d w) i t s l e
 
+  -- "the earliest instant at which the task may start": no task starts before its not-before instant
+  pub not-before : (d : ℕ → ℕ) → Allowed p c d → (i t s : ℕ) → t < p .tasks → timed p c d i .start t ≡ some s
+      → releaseOf (p .releases) t ≤ s
+  not-before d w = start-not-before a d (allowed-lasts a d w)
+
   -- a second walk at the same instant changes nothing
   pub settled : (d : ℕ → ℕ) (i : ℕ) → dispatch p c (entries c) (timed p c d i) ≡ timed p c d i
   unfolding timed opening step
@@ -67,8 +73,8 @@ module _ (p : Plan) (c : Constraint) (ok : verdict p c .number ≡ 0) where
   pub first-over : (d : ℕ → ℕ) → Allowed p c d → (i : ℕ) → over p (timed p c d i) ≡ leb (response p c d) i
   first-over d w = response-laws.over-timed a d (allowed-lasts a d w)
 
-  -- from instant 0 until it is over, some task runs after each walk
-  pub never-idle : (d : ℕ → ℕ) → Allowed p c d → (i : ℕ) → over p (timed p c d i) ≡ false
+  -- from the greatest not-before instant on, until it is over, some task runs after each walk
+  pub never-idle : (d : ℕ → ℕ) → Allowed p c d → (i : ℕ) → greatestRelease p ≤ i → over p (timed p c d i) ≡ false
       → (t : ℕ) × (t < p .tasks) × (isRunning (timed p c d i) t ≡ true)
   never-idle d w = response-laws.never-idle a d (allowed-lasts a d w)
 
@@ -76,8 +82,8 @@ module _ (p : Plan) (c : Constraint) (ok : verdict p c .number ≡ 0) where
   pub within-bound : (d : ℕ → ℕ) → Allowed p c d → response p c d ≤ bound p c
   within-bound = listed.within-bound a
 
-  -- the bound is at most the sum of the worst times
-  pub bound-sum : bound p c ≤ sum (p .tasks) (worst p c)
+  -- the bound is at most the greatest not-before instant plus the sum of the worst times
+  pub bound-sum : bound p c ≤ greatestRelease p + sum (p .tasks) (worst p c)
   unfolding bound horizon
   bound-sum = response-laws.response-sum a (worst p c) (worst-lasts a)
 

@@ -4,13 +4,13 @@ use mathlib.Core.Path.{_≡_}
 use mathlib.Core.List.{List, [], _∷_}
 use mathlib.Core.Option.{Option, none, some}
 use Prim.Native.Nat.{ℕ, zero, suc, _+_, _<_}
-use lib.Dec.{eqb, ltb}
+use lib.Dec.{eqb, leb, ltb}
 use lib.ListN.{getD}
 use Rattle.task_set.specs.Bounded.{all, count, implies, tabulate}
 use Rattle.task_set.specs.Sets.{width, has}
 use Rattle.plan.specs.declared.Plan.{Plan}
 use Rattle.plan.specs.declared.Constraint.{Constraint}
-use Rattle.plan.specs.Rules.{between, timeOf, predecessorsOf}
+use Rattle.plan.specs.Rules.{between, timeOf, predecessorsOf, releaseOf}
 use Rattle.plan.specs.Refusals.{entryAt}
 use Rattle.dispatch_theory.specs.Sums.{sum, greatest}
 
@@ -73,13 +73,19 @@ isRunning n t = hasStarted n t && not (hasFinished n t)
 unfoldable pub cleared : Plan → Notes → ℕ → Bool
 cleared p n t = all width (λ u. implies (has (predecessorsOf (p .predecessors) t) u) (hasFinished n u))
 
+-- its not-before instant has come
+unfoldable pub released : Plan → Notes → ℕ → Bool
+released p n t = leb (releaseOf (p .releases) t) (n .instant)
+
 -- how many "running tasks use" a type
 unfoldable pub busy : Constraint → Notes → ℕ → ℕ
 busy c n k = count width (λ t. isRunning n t && eqb (typeOf c t) k)
 
--- "It starts if all its predecessors are finished and fewer running tasks use its chosen type than the type has units"
+-- "It starts if all its predecessors are finished and fewer running tasks use its chosen type than the type has units";
+-- "The walk also stops at a task whose instant has not come" (document 02, 6)
 unfoldable pub mayStart : Plan → Constraint → Notes → Entry → Bool
-mayStart p c n e = cleared p n (e .task) && ltb (busy c n (e .type)) (getD (p .units) (e .type) 0)
+mayStart p c n e =
+    cleared p n (e .task) && (released p n (e .task) && ltb (busy c n (e .type)) (getD (p .units) (e .type) 0))
 
 -- the task starts at the instant
 abbrev pub begin : Notes → ℕ → Notes
@@ -131,9 +137,13 @@ timed p c d (suc i) = let n = timed p c d i in step p c (timeUp d n) n
 unfoldable pub over : Plan → Notes → Bool
 over p n = all (p .tasks) (hasFinished n)
 
--- every run is over by then
+-- the greatest not-before instant of a plan
+unfoldable pub greatestRelease : Plan → ℕ
+greatestRelease p = greatest (p .tasks) (releaseOf (p .releases))
+
+-- every run is over by then: "the greatest such instant plus the sum" (document 02, 6) of the times
 unfoldable pub horizon : Plan → (ℕ → ℕ) → ℕ
-horizon p d = sum (p .tasks) d
+horizon p d = greatestRelease p + sum (p .tasks) d
 
 -- the notes of the run when it is over
 unfoldable pub ended : Plan → Constraint → (ℕ → ℕ) → Notes

@@ -1,4 +1,4 @@
-// The bars of the tasks, with their numbers and deadlines.
+// The bars of the tasks, with their numbers, deadlines and not-before instants.
 use crate::arrows;
 use crate::cells::instant;
 use crate::cells::larger;
@@ -14,15 +14,18 @@ use crate::svg;
 use plan::MOST_TASKS;
 use plan::MOST_TYPES;
 
-// The tasks with a narrow bar, with a deadline, with one that they miss, and with one beyond the axis.
+// The tasks with a narrow bar, with a deadline, with one that they miss, and with one beyond the axis; and those with a not-before
+// instant above 0.
 pub struct Sets {
     pub narrow: u64,
     pub due: u64,
     pub late: u64,
     pub beyond: u64,
+    pub released: u64,
 }
 
-// Where the bar of a task lies, its number if it is narrow, its deadline and the number of that.
+// Where the bar of a task lies, its number if it is narrow, its deadline and the number of that; and where the row of not-before
+// instants begins below it, its own one and the number of that.
 pub struct Bar {
     pub task: usize,
     pub left: u64,
@@ -32,12 +35,21 @@ pub struct Bar {
     pub number: u64,
     pub due: u64,
     pub flag: u64,
+    pub foot: u64,
+    pub release: u64,
+    pub tag: u64,
 }
 
 fn say_waits(predecessors: u64) {
     if predecessors != 0 {
         put::text(b"; waits for ");
         names::numbers(predecessors);
+    }
+}
+
+fn say_release(release: u64) {
+    if release != 0 {
+        put::words(b"; not before ", release, b"");
     }
 }
 
@@ -56,6 +68,7 @@ pub fn say<'a>(
     lanes: &'a [usize; MOST_TASKS],
     starts: &'a [u32; MOST_TASKS],
     finishes: &'a [u32; MOST_TASKS],
+    releases: &'a [u32; MOST_TASKS],
     deadlines: &'a [u32; MOST_TASKS],
     predecessors: u64,
     t: usize,
@@ -65,6 +78,7 @@ pub fn say<'a>(
     put::words(b", ", instant(starts, t), b" to ");
     put::number(instant(finishes, t));
     say_waits(predecessors);
+    say_release(instant(releases, t));
     say_deadline(instant(deadlines, t), instant(finishes, t));
     put::text(b"</title>\n");
 }
@@ -80,6 +94,9 @@ pub fn bar_of<'a>(
     numbers: &'a [u64; MOST_TASKS],
     dues: &'a [u64; MOST_TASKS],
     flags: &'a [u64; MOST_TASKS],
+    feet: &'a [u64; MOST_TASKS],
+    releases: &'a [u64; MOST_TASKS],
+    tags: &'a [u64; MOST_TASKS],
     height: u64,
     t: usize,
 ) -> Bar {
@@ -92,6 +109,9 @@ pub fn bar_of<'a>(
         number: place(numbers, t),
         due: place(dues, t),
         flag: place(flags, t),
+        foot: place(feet, t),
+        release: place(releases, t),
+        tag: place(tags, t),
     }
 }
 
@@ -180,6 +200,19 @@ fn draw_deadline(b: Bar, s: Sets) {
     svg::number(b"flagged", b.flag, less(b.y, 150), b.task as u64);
 }
 
+// The mark of the not-before instant below the bar, and the task's number below it.
+fn draw_release(b: Bar) {
+    svg::bracket(b"release", b.release, plus(b.foot, 50));
+    svg::line(
+        b"lead",
+        b.release,
+        plus(b.foot, 125),
+        b.tag,
+        plus(b.foot, 165),
+    );
+    svg::number(b"released", b.tag, plus(b.foot, 245), b.task as u64);
+}
+
 // What is always seen of a task.
 fn draw(b: Bar, s: Sets) {
     let task = b.task;
@@ -196,6 +229,9 @@ fn draw(b: Bar, s: Sets) {
     if task_set::contains(s.due, task) {
         draw_deadline(b, s);
     }
+    if task_set::contains(s.released, task) {
+        draw_release(b);
+    }
     if task_set::contains(s.narrow, task) {
         number_below(b);
     } else {
@@ -203,27 +239,31 @@ fn draw(b: Bar, s: Sets) {
     }
 }
 
-// The stroke of a deadline across its lane, of those that are on the axis.
-fn stroke(x: u64, y: u64, height: u64, is_there: bool) {
+fn stroke(class: &[u8], x: u64, top: u64, bottom: u64, is_there: bool) {
     if is_there {
-        svg::line(b"due", x, less(y, 60), x, plus(y, plus(height, 40)));
+        svg::line(class, x, top, x, bottom);
     }
 }
 
-// The strokes of deadlines, to be drawn under the bars.
+// Strokes across the lane at the instants of some tasks, to be drawn under the bars: each from so far above the upper end of the bar to
+// so far below another place.
 pub fn strokes<'a>(
-    dues: &'a [u64; MOST_TASKS],
+    class: &[u8],
+    instants: &'a [u64; MOST_TASKS],
     ys: &'a [u64; MOST_TASKS],
+    above: u64,
+    ends: &'a [u64; MOST_TASKS],
+    below: u64,
     tasks: u64,
-    height: u64,
     n: usize,
 ) {
     let mut t = 0;
     while t < n {
         stroke(
-            place(dues, t),
-            place(ys, t),
-            height,
+            class,
+            place(instants, t),
+            less(place(ys, t), above),
+            plus(place(ends, t), below),
             task_set::contains(tasks, t),
         );
         t += 1;

@@ -1,9 +1,12 @@
-// The chain of tasks that makes R: from a task that finishes at R back to what held it, and so on, to a task that starts at 0.
-// A predecessor is preferred to a task that freed a unit, and that to the order; of several tasks the first in the order is taken.
+// The chain of tasks that makes R: from a task that finishes at R back to what held it, and so on, to a task that starts at 0 or
+// that only its not-before instant held. The time until that instant is a link of its own, so that the links add up to R.
+// A predecessor is preferred to a task that freed a unit, that to the not-before instant, and that to the order; of several tasks
+// the first in the order is taken.
 // A task that only the order held starts together with the one before it, so the time of that one adds nothing to R.
 use crate::held;
 use crate::held::Row;
 use crate::held::first_of;
+use crate::held::waits_for_none;
 use crate::names;
 use crate::put;
 use plan::Constraint;
@@ -19,11 +22,16 @@ pub struct Chain {
     idle: u64,
 }
 
-fn by_order_alone(r: Row) -> bool {
-    r.behind & ((r.awaited | r.freeing) == 0)
+// Whether the chain begins with this task, if it is a link.
+fn is_first(r: Row) -> bool {
+    (r.start == 0) | (r.released & waits_for_none(r))
 }
 
-// The task before this one in the chain. This one starts after 0.
+fn by_order_alone(r: Row) -> bool {
+    r.behind & waits_for_none(r) & !r.released
+}
+
+// The task before this one in the chain. This one is not the first.
 fn cause(order: &[usize; MOST_TASKS], n: usize, r: Row) -> usize {
     if r.awaited != 0 {
         return first_of(order, n, r.awaited);
@@ -57,10 +65,11 @@ fn traced(p: Plan, c: Constraint, s: Simulation, last: usize) -> Chain {
             &p.units,
             &s.starts,
             &s.finishes,
+            &p.releases,
             n,
             i,
         );
-        if contains(members, r.task) & (0 < r.start) {
+        if contains(members, r.task) & !is_first(r) {
             members = inserted(members, cause(&c.order, n, r));
             idle = idle_with(idle, r);
         }
@@ -78,6 +87,8 @@ fn put_cause(order: &[usize; MOST_TASKS], n: usize, r: Row) {
         put_unit(r.units);
         put::words(b" of type ", r.kind as u64, b" from ");
         names::task(cause(order, n, r));
+    } else if r.released {
+        put::text(b"starts at its not-before instant");
     } else {
         put::text(b"starts with ");
         names::task(r.previous);
@@ -104,17 +115,34 @@ fn added(r: Row, idle: u64) -> u32 {
     r.finish - r.start
 }
 
+// The numbers of a link.
+fn put_columns(start: u32, finish: u32, adds: u32, digits: usize) {
+    put::under(b"start", digits, start as u64);
+    put::under(b"finish", digits, finish as u64);
+    put::under(b"adds", digits, adds as u64);
+    put::text(b"  ");
+}
+
+// The time until the not-before instant of the first task.
+fn put_until(r: Row, digits: usize) {
+    put::text(b"   N");
+    put_columns(0, r.start, r.start, digits);
+    names::task(r.task);
+    put::words(b" may not start before ", r.start as u64, b"\n");
+}
+
 // A link of the chain, if the task is one.
 pub fn put_link(order: &[usize; MOST_TASKS], n: usize, r: Row, h: Chain, digits: usize) {
-    if contains(h.members, r.task) {
-        put::right(r.task as u64, 4);
-        put::under(b"start", digits, r.start as u64);
-        put::under(b"finish", digits, r.finish as u64);
-        put::under(b"adds", digits, added(r, h.idle) as u64);
-        put::text(b"  ");
-        put_cause(order, n, r);
-        put::end_line();
+    if !contains(h.members, r.task) {
+        return;
     }
+    if is_first(r) & (0 < r.start) {
+        put_until(r, digits);
+    }
+    put::right(r.task as u64, 4);
+    put_columns(r.start, r.finish, added(r, h.idle), digits);
+    put_cause(order, n, r);
+    put::end_line();
 }
 
 fn put_heads(digits: usize) {

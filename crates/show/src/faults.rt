@@ -1,10 +1,11 @@
-// Refusals 3 to 7: what is wrong with a line that has one of the five forms.
+// Refusals 3 to 7: what is wrong with a line that has one of the six forms.
 use crate::cells;
 use crate::checks;
 use crate::lines;
 use crate::names;
 use crate::put;
 use plan::LATEST_DEADLINE;
+use plan::LATEST_RELEASE;
 use plan::LONGEST_TIME;
 use plan::MOST_TASKS;
 use plan::MOST_TYPES;
@@ -65,9 +66,14 @@ fn arrow_range(from: u32, to: u32) {
     }
 }
 
-fn deadline_range(t: u32, d: u32) {
+// The numbers of a line that names an instant of a task.
+fn instant_range(t: u32, name: &[u8], x: u32, least: u32, most: u32) {
     task_range(t);
-    range(b"deadline", d, 1, LATEST_DEADLINE, b": take a longer tick");
+    range(name, x, least, most, b": take a longer tick");
+}
+
+fn deadline_range(t: u32, d: u32) {
+    instant_range(t, b"deadline", d, 1, LATEST_DEADLINE);
     if d == 0 {
         put::text(b"  a task without deadline has no D line\n");
     }
@@ -83,6 +89,7 @@ fn ranges(line: Line) {
         Line::Times(t, k, b, w) => times_range(t, k, b, w),
         Line::Arrow(from, to) => arrow_range(from, to),
         Line::Deadline(t, d) => deadline_range(t, d),
+        Line::Release(t, i) => instant_range(t, b"not-before instant", i, 0, LATEST_RELEASE),
         Line::Choice(t, k) => {
             task_range(t);
             type_range(k);
@@ -111,13 +118,18 @@ fn next_kind(letter: u8) -> u8 {
         b'U' => b'T',
         b'T' => b'A',
         b'A' => b'D',
-        b'D' => b'C',
+        b'D' => b'N',
+        b'N' => b'C',
         _ => 0,
     }
 }
 
+fn put_order() {
+    put::text(b": the order is U, T, A, D, N, C\n");
+}
+
 // No line has more kinds after it.
-const LATER_KINDS: usize = 4;
+const LATER_KINDS: usize = 5;
 
 // The first line of a later kind above this one. All lines above it are in order.
 fn first_later(text: &[u8], letter: u8, place: usize) -> usize {
@@ -151,11 +163,8 @@ fn late(text: &[u8], place: usize) {
     } else {
         put::text(b"; move");
     }
-    put::words(
-        b" the line up, above line ",
-        later as u64,
-        b": the order is U, T, A, D, C\n",
-    );
+    put::words(b" the line up, above line ", later as u64, b"");
+    put_order();
     lines::quote(text, later);
 }
 
@@ -170,11 +179,8 @@ fn absent(text: &[u8], place: usize, name: &[u8], letter: &[u8], n: u32) {
     put::words(b" ", n as u64, b" has no ");
     put::text(letter);
     if found != 0 {
-        put::words(
-            b" line above; it is below, line ",
-            found as u64,
-            b": the order is U, T, A, D, C\n",
-        );
+        put::words(b" line above; it is below, line ", found as u64, b"");
+        put_order();
     } else if lines::find_letter(text, lines::byte(letter, 0)) != 0 {
         put::text(b" line\n");
     } else {
@@ -182,13 +188,15 @@ fn absent(text: &[u8], place: usize, name: &[u8], letter: &[u8], n: u32) {
     }
 }
 
-fn absent_task(text: &[u8], place: usize, t: u32) {
+// A line that names one task, or the first of the two that an arrow names.
+fn unknown_task(text: &[u8], place: usize, t: u32) {
+    put::text(b"the line names a task that has no T line above\n");
     absent(text, place, b"task", b"T", t);
 }
 
-fn absent_tasks(text: &[u8], place: usize, from: u32, to: u32) {
-    absent_task(text, place, from);
-    absent_task(text, place, to);
+fn unknown_tasks(text: &[u8], place: usize, from: u32, to: u32) {
+    unknown_task(text, place, from);
+    absent(text, place, b"task", b"T", to);
 }
 
 // Of a U line all lines before are U lines, so that this one should be of the type after theirs; or it is there already.
@@ -214,23 +222,11 @@ fn unknown(text: &[u8], place: usize, line: Line) {
             put::text(b"the line names a type that has no U line above\n");
             absent(text, place, b"type", b"U", k);
         }
-        Line::Arrow(from, to) => {
-            put_unknown_task();
-            absent_tasks(text, place, from, to);
-        }
-        Line::Deadline(t, _) => {
-            put_unknown_task();
-            absent_task(text, place, t);
-        }
-        Line::Choice(t, _) => {
-            put_unknown_task();
-            absent_task(text, place, t);
-        }
+        Line::Arrow(from, to) => unknown_tasks(text, place, from, to),
+        Line::Deadline(t, _) => unknown_task(text, place, t),
+        Line::Release(t, _) => unknown_task(text, place, t),
+        Line::Choice(t, _) => unknown_task(text, place, t),
     }
-}
-
-fn put_unknown_task() {
-    put::text(b"the line names a task that has no T line above\n");
 }
 
 // The first line that says the same, of the numbers that may not come twice.
@@ -240,19 +236,26 @@ fn earlier(text: &[u8], line: Line) -> usize {
         Line::Times(t, k, _, _) => lines::find_two(text, b'T', t as u64, k as u64),
         Line::Arrow(from, to) => lines::find_two(text, b'A', from as u64, to as u64),
         Line::Deadline(t, _) => lines::find_one(text, b'D', t as u64),
+        Line::Release(t, _) => lines::find_one(text, b'N', t as u64),
         Line::Choice(t, _) => lines::find_one(text, b'C', t as u64),
     }
+}
+
+fn put_already(t: u32, what: &[u8]) {
+    put::words(b"task ", t as u64, b" already ");
+    put::text(what);
 }
 
 fn put_twice(line: Line) {
     match line {
         Line::Times(t, k, _, _) => {
-            put::words(b"task ", t as u64, b" already has times on type ");
+            put_already(t, b"has times on type ");
             put::number(k as u64);
         }
         Line::Arrow(_, _) => put::text(b"this arrow is already there"),
-        Line::Deadline(t, _) => put::words(b"task ", t as u64, b" already has a deadline"),
-        Line::Choice(t, _) => put::words(b"task ", t as u64, b" already stands in the order"),
+        Line::Deadline(t, _) => put_already(t, b"has a deadline"),
+        Line::Release(t, _) => put_already(t, b"has an N line"),
+        Line::Choice(t, _) => put_already(t, b"stands in the order"),
         _ => {}
     }
 }

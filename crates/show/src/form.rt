@@ -1,4 +1,4 @@
-// Refusal 2: what keeps a line from being one of the five forms.
+// Refusal 2: what keeps a line from being one of the six forms.
 use crate::cells;
 use crate::lines;
 use crate::put;
@@ -53,11 +53,15 @@ fn has_slashes(s: &[u8]) -> bool {
 }
 
 fn is_letter(b: u8) -> bool {
-    (b == b'U') | (b == b'T') | (b == b'A') | (b == b'D') | (b == b'C')
+    (b == b'U') | (b == b'T') | (b == b'A') | (b == b'D') | (b == b'N') | (b == b'C')
 }
 
+// One of the letters in lower case, which stands 32 places behind it in ASCII.
 fn is_small_letter(b: u8) -> bool {
-    (b == b'u') | (b == b't') | (b == b'a') | (b == b'd') | (b == b'c')
+    if b < b'a' {
+        return false;
+    }
+    is_letter(b - 32)
 }
 
 fn put_mark(s: &[u8]) {
@@ -182,17 +186,17 @@ fn front(s: &[u8]) -> bool {
     let letter = lines::byte(s, 0);
     let second = lines::byte(s, 1);
     if is_small_letter(letter) & (second == TAB) {
-        put::text(b"the letter is a small one; write U, T, A, D or C");
+        put::text(b"the letter is a small one; write U, T, A, D, N or C");
     } else if (second == b',') | (second == b';') {
         put::text(
             b"commas or semicolons stand for tabs; one tab stands before each number: save the text with tabs",
         );
     } else if is_in_word(letter) & is_in_word(second) {
         put::text(
-            b"a line begins with one letter, U, T, A, D or C, and a tab; there are no headings",
+            b"a line begins with one letter, U, T, A, D, N or C, and a tab; there are no headings",
         );
     } else if (second != TAB) | !is_letter(letter) {
-        put::text(b"a line begins with one of the letters U, T, A, D and C, and a tab");
+        put::text(b"a line begins with one of the letters U, T, A, D, N and C, and a tab");
     } else {
         return false;
     }
@@ -312,6 +316,7 @@ fn put_form(letter: u8) {
         b'T' => put::text(b"a T line has 4 numbers: task, type, best, worst"),
         b'A' => put::text(b"an A line has 2 numbers: from, to"),
         b'D' => put::text(b"a D line has 2 numbers: task, instant"),
+        b'N' => put::text(b"an N line has 2 numbers: task, instant"),
         _ => put::text(b"a C line has 2 numbers: task, type"),
     }
 }

@@ -20,9 +20,16 @@ pub struct Row {
     pub awaited: u64,
     // Where every unit of its type was taken just before its start: the tasks that had one and finish at its start.
     pub freeing: u64,
+    // Whether its start is its not-before instant.
+    pub released: bool,
     // Whether `previous`, the task just before it in the order, starts at its start too.
     pub behind: bool,
     pub previous: usize,
+}
+
+// Whether it waited for the finish of no task.
+pub fn waits_for_none(r: Row) -> bool {
+    (r.awaited | r.freeing) == 0
 }
 
 // The tasks that finish at an instant.
@@ -111,6 +118,7 @@ pub fn at<'a>(
     units: &'a [u32; MOST_TYPES],
     starts: &'a [u32; MOST_TASKS],
     finishes: &'a [u32; MOST_TASKS],
+    releases: &'a [u32; MOST_TASKS],
     n: usize,
     i: usize,
 ) -> Row {
@@ -129,6 +137,7 @@ pub fn at<'a>(
         finish: instant(finishes, task),
         awaited: plan::predecessors_of(predecessors, task) & finished,
         freeing: freed(taken, there, finished),
+        released: (0 < start) & (instant(releases, task) == start),
         behind: (0 < start) & (instant(starts, previous) == start),
         previous,
     }

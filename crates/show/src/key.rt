@@ -21,6 +21,22 @@ fn deadline_key(s: Sets, x: u64, y: u64) {
     }
 }
 
+// How far the second line of the key, which only not-before instants have, lies below the first.
+const SECOND_LINE: u64 = 200;
+
+// How high the key is.
+pub fn height(s: Sets) -> u64 {
+    if s.released == 0 {
+        return 550;
+    }
+    550 + SECOND_LINE
+}
+
+fn release_key(x: u64, y: u64) {
+    svg::bracket(b"release", x, less(y, 75));
+    svg::words(b"key", plus(x, 120), y, b"not-before instant of that task");
+}
+
 // How far the arrow with its words moves the rest to the right.
 fn arrow_room(arrows: u64) -> u64 {
     if arrows == 0 {
@@ -48,5 +64,8 @@ pub fn draw(s: Sets, arrows: u64, bottom: u64) {
     }
     if s.due != 0 {
         deadline_key(s, plus(scale::LEFT + 1000, arrow_room(arrows)), y);
+    }
+    if s.released != 0 {
+        release_key(scale::LEFT, plus(y, SECOND_LINE));
     }
 }

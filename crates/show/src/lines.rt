@@ -104,6 +104,7 @@ fn is_sought(line: Line, s: Sought) -> bool {
         Line::Times(t, k, _, _) => (s.letter == b'T') & agree(t, k, s),
         Line::Arrow(from, to) => (s.letter == b'A') & agree(from, to, s),
         Line::Deadline(t, d) => (s.letter == b'D') & agree(t, d, s),
+        Line::Release(t, i) => (s.letter == b'N') & agree(t, i, s),
         Line::Choice(t, k) => (s.letter == b'C') & agree(t, k, s),
     }
 }
@@ -164,7 +165,7 @@ fn counted(n: u64, s: &[u8]) -> u64 {
     cells::plus(n, 1)
 }
 
-// How many lines are none of the five forms.
+// How many lines are none of the six forms.
 pub fn count_unformed(text: &[u8]) -> u64 {
     let mut n = 0;
     let mut at = 0;

@@ -1,24 +1,27 @@
-// The timetable of worst times as a chart, in SVG: a lane for each unit, a bar for each task, arrows, deadlines and the response.
+// The timetable of worst times as a chart, in SVG: a lane for each unit, a bar for each task, arrows, deadlines, not-before
+// instants and the response.
 use crate::arrows;
 use crate::axis;
 use crate::bars;
 use crate::bars::Sets;
+use crate::cells::plus;
 use crate::due;
 use crate::get::entry;
 use crate::key;
 use crate::lanes;
 use crate::rows;
+use crate::rows::Having;
+use crate::rows::Rows;
 use crate::scale;
 use crate::spread;
 use crate::style;
 use plan::Constraint;
 use plan::MOST_TASKS;
-use plan::MOST_TYPES;
 use plan::Plan;
 use simulation::Simulation;
 
 // By task number: the lane, where the bar lies from the left to the right, where the number of a narrow one, the deadline and the
-// number of that.
+// number of that, the not-before instant and the number of that.
 struct Places {
     lanes: [usize; MOST_TASKS],
     lefts: [u64; MOST_TASKS],
@@ -26,7 +29,16 @@ struct Places {
     numbers: [u64; MOST_TASKS],
     dues: [u64; MOST_TASKS],
     flags: [u64; MOST_TASKS],
+    releases: [u64; MOST_TASKS],
+    tags: [u64; MOST_TASKS],
     sets: Sets,
+}
+
+// By task number, where the bar begins from above, and the row of not-before instants below it; and how high a bar is.
+struct Heights {
+    bars: [u64; MOST_TASKS],
+    feet: [u64; MOST_TASKS],
+    bar: u64,
 }
 
 // The picture of an accepted plan.
@@ -39,15 +51,17 @@ fn sets_of<'a>(
     lefts: &'a [u64; MOST_TASKS],
     rights: &'a [u64; MOST_TASKS],
     deadlines: &'a [u32; MOST_TASKS],
+    releases: &'a [u32; MOST_TASKS],
     finishes: &'a [u32; MOST_TASKS],
     end: u64,
     n: usize,
 ) -> Sets {
     Sets {
         narrow: bars::narrow(lefts, rights, n),
-        due: due::with_deadline(deadlines, n),
+        due: due::with_instant(deadlines, n),
         late: due::late(deadlines, finishes, n),
         beyond: due::beyond(deadlines, end, n),
+        released: due::with_instant(releases, n),
     }
 }
 
@@ -58,11 +72,22 @@ fn laid(p: Plan, c: Constraint, s: Simulation, end: u64) -> Places {
     let lefts = scale::places(end, &s.starts, n);
     let rights = scale::places(end, &s.finishes, n);
     let dues = scale::places(end, &p.deadlines, n);
-    let sets = sets_of(&lefts, &rights, &p.deadlines, &s.finishes, end, n);
+    let releases = scale::places(end, &p.releases, n);
+    let sets = sets_of(
+        &lefts,
+        &rights,
+        &p.deadlines,
+        &p.releases,
+        &s.finishes,
+        end,
+        n,
+    );
     let middles = scale::middles(&lefts, &rights, n);
     let numbers = spread::spread(&c.order, &lanes, &middles, sets.narrow, n);
     let by_deadline = due::order(&p.deadlines, n);
     let flags = spread::spread(&by_deadline, &lanes, &dues, sets.due, n);
+    let by_release = due::order(&p.releases, n);
+    let tags = spread::spread(&by_release, &lanes, &releases, sets.released, n);
     Places {
         lanes,
         lefts,
@@ -70,7 +95,26 @@ fn laid(p: Plan, c: Constraint, s: Simulation, end: u64) -> Places {
         numbers,
         dues,
         flags,
+        releases,
+        tags,
         sets,
+    }
+}
+
+// The lanes that have rows besides their bars.
+fn lanes_having(lanes: &[usize; MOST_TASKS], s: Sets, n: usize) -> Having {
+    Having {
+        flags: lanes::of_set(lanes, s.due, n),
+        numbers: lanes::of_set(lanes, s.narrow, n),
+        brackets: lanes::of_set(lanes, s.released, n),
+    }
+}
+
+fn heights_of(lanes: &[usize; MOST_TASKS], r: Rows, bar: u64, n: usize) -> Heights {
+    Heights {
+        bars: rows::by_task(lanes, &r.bars, n),
+        feet: rows::by_task(lanes, &r.feet, n),
+        bar,
     }
 }
 
@@ -81,75 +125,82 @@ fn chart(p: Plan, c: Constraint, s: Simulation) {
     let end = scale::end_of(&p.deadlines, response, n);
     let a = laid(p, c, s, end);
     let size = scale::size_for(lanes::count(&p.units));
-    let flagged = lanes::of_set(&a.lanes, a.sets.due, n);
-    let numbered = lanes::of_set(&a.lanes, a.sets.narrow, n);
-    let rows = rows::laid(&p.units, size, flagged, numbered);
+    let rows = rows::laid(&p.units, size, lanes_having(&a.lanes, a.sets, n));
     let bottom = rows.bottom;
-    let ys = rows::by_task(&a.lanes, &rows.bars, n);
-    let on_axis = task_set::difference(a.sets.due, a.sets.beyond);
-    style::begin(bottom, response);
+    let h = heights_of(&a.lanes, rows, size.bar, n);
+    style::begin(bottom, a.sets, response);
     axis::draw(end, size, bottom);
     rows::draw(&p.units, &rows.tops, &rows.bars, size);
     axis::frame(size.top, bottom);
-    bars::strokes(&a.dues, &ys, on_axis, size.bar, n);
-    arrows::draw(&a.lefts, &a.rights, &ys, &p.predecessors, size.bar, n);
+    strokes(a, h, n);
+    arrows::draw(&a.lefts, &a.rights, &h.bars, &p.predecessors, size.bar, n);
     axis::response(scale::x(end, response), response, size, bottom);
-    all_tasks(p, c, s, a, ys, size.bar);
+    tasks(p, c, s, a, h);
     key::draw(a.sets, arrows::count(&p.predecessors, n), bottom);
     style::end();
 }
 
-fn all_tasks(p: Plan, c: Constraint, s: Simulation, a: Places, ys: [u64; MOST_TASKS], height: u64) {
-    tasks(
-        &c.order,
+// The strokes of not-before instants, and of the deadlines that are on the axis.
+fn strokes(a: Places, h: Heights, n: usize) {
+    let on_axis = task_set::difference(a.sets.due, a.sets.beyond);
+    bars::strokes(
+        b"open",
+        &a.releases,
+        &h.bars,
+        0,
+        &h.feet,
+        50,
+        a.sets.released,
+        n,
+    );
+    bars::strokes(
+        b"due",
+        &a.dues,
+        &h.bars,
+        60,
+        &h.bars,
+        plus(h.bar, 40),
+        on_axis,
+        n,
+    );
+}
+
+// The tasks in the order of the constraint.
+fn tasks(p: Plan, c: Constraint, s: Simulation, a: Places, h: Heights) {
+    let n = p.tasks;
+    let mut i = 0;
+    while i < n {
+        task(p, s, a, h, entry(&c.order, i));
+        i += 1;
+    }
+}
+
+// A task is a group: what is said under the pointer, its bar, its number, its deadline and its not-before instant.
+fn task(p: Plan, s: Simulation, a: Places, h: Heights, t: usize) {
+    let from = plan::predecessors_of(&p.predecessors, t);
+    bars::begin_group();
+    bars::say(
         &p.units,
         &a.lanes,
         &s.starts,
         &s.finishes,
+        &p.releases,
         &p.deadlines,
-        &p.predecessors,
+        from,
+        t,
+    );
+    let b = bars::bar_of(
         &a.lefts,
         &a.rights,
-        &ys,
+        &h.bars,
         &a.numbers,
         &a.dues,
         &a.flags,
-        a.sets,
-        height,
-        p.tasks,
+        &h.feet,
+        &a.releases,
+        &a.tags,
+        h.bar,
+        t,
     );
-}
-
-// The tasks in the order of the constraint, each a group: what is said under the pointer, its bar, its number and its deadline.
-fn tasks<'a>(
-    order: &'a [usize; MOST_TASKS],
-    units: &'a [u32; MOST_TYPES],
-    lanes: &'a [usize; MOST_TASKS],
-    starts: &'a [u32; MOST_TASKS],
-    finishes: &'a [u32; MOST_TASKS],
-    deadlines: &'a [u32; MOST_TASKS],
-    predecessors: &'a [u64; MOST_TASKS],
-    lefts: &'a [u64; MOST_TASKS],
-    rights: &'a [u64; MOST_TASKS],
-    ys: &'a [u64; MOST_TASKS],
-    numbers: &'a [u64; MOST_TASKS],
-    dues: &'a [u64; MOST_TASKS],
-    flags: &'a [u64; MOST_TASKS],
-    sets: Sets,
-    height: u64,
-    n: usize,
-) {
-    let mut i = 0;
-    while i < n {
-        let t = entry(order, i);
-        let from = plan::predecessors_of(predecessors, t);
-        bars::begin_group();
-        bars::say(units, lanes, starts, finishes, deadlines, from, t);
-        bars::draw_group(
-            bars::bar_of(lefts, rights, ys, numbers, dues, flags, height, t),
-            sets,
-            from,
-        );
-        i += 1;
-    }
+    bars::draw_group(b, a.sets, from);
 }

@@ -10,15 +10,25 @@ use crate::svg;
 use plan::MOST_TASKS;
 use plan::MOST_TYPES;
 
-// The row of deadlines above the bars of a lane, and the row of numbers below them.
+// The row of deadlines above the bars of a lane, the row of numbers below them, and below that the row of not-before instants.
 const FLAGS: u64 = 240;
 
 const NUMBERS: u64 = 170;
 
-// By lane, where it begins and where its bars do; and where the last one ends.
+const BRACKETS: u64 = 255;
+
+// The lanes that have such rows, as sets.
+pub struct Having {
+    pub flags: u64,
+    pub numbers: u64,
+    pub brackets: u64,
+}
+
+// By lane, where it begins, where its bars do and where its row of not-before instants; and where the last one ends.
 pub struct Rows {
     pub tops: [u64; lanes::MOST_LANES],
     pub bars: [u64; lanes::MOST_LANES],
+    pub feet: [u64; lanes::MOST_LANES],
     pub bottom: u64,
 }
 
@@ -35,50 +45,59 @@ fn bar_at(y: u64, s: Size, flagged: bool) -> u64 {
     plus(plus(y, s.pad), part(flagged, FLAGS))
 }
 
+// Where the row of not-before instants begins below bars that begin at a place.
+fn foot_at(bar: u64, s: Size, numbered: bool) -> u64 {
+    plus(plus(bar, s.bar), part(numbered, NUMBERS))
+}
+
 // Where a lane ends; one that is not there, where it begins.
-fn end_at(y: u64, s: Size, bar: u64, is_there: bool, numbered: bool) -> u64 {
+fn end_at(y: u64, s: Size, foot: u64, is_there: bool, bracketed: bool) -> u64 {
     if is_there {
-        return plus(plus(plus(bar, s.bar), s.pad), part(numbered, NUMBERS));
+        return plus(plus(foot, s.pad), part(bracketed, BRACKETS));
     }
     y
 }
 
-// The rows, with the sets of lanes that have deadlines, and numbers below their bars.
-pub fn laid(units: &[u32; MOST_TYPES], s: Size, flagged: u64, numbered: u64) -> Rows {
+// The rows of all lanes.
+pub fn laid(units: &[u32; MOST_TYPES], s: Size, h: Having) -> Rows {
     let mut tops = [0; lanes::MOST_LANES];
     let mut bars = [0; lanes::MOST_LANES];
+    let mut feet = [0; lanes::MOST_LANES];
     let mut y = s.top;
     let mut i = 0;
     while i < lanes::MOST_LANES {
-        let bar = bar_at(y, s, task_set::contains(flagged, i));
+        let bar = bar_at(y, s, task_set::contains(h.flags, i));
+        let foot = foot_at(bar, s, task_set::contains(h.numbers, i));
         cells::set_place(&mut tops, i, y);
         cells::set_place(&mut bars, i, bar);
+        cells::set_place(&mut feet, i, foot);
         y = end_at(
             y,
             s,
-            bar,
+            foot,
             lanes::is_there(units, i),
-            task_set::contains(numbered, i),
+            task_set::contains(h.brackets, i),
         );
         i += 1;
     }
     Rows {
         tops,
         bars,
+        feet,
         bottom: y,
     }
 }
 
-// Where the bar of each task begins, by task number.
+// Where the bar of each task begins, or the row below it, by task number.
 pub fn by_task<'a>(
     lanes: &'a [usize; MOST_TASKS],
-    bars: &'a [u64; lanes::MOST_LANES],
+    rows: &'a [u64; lanes::MOST_LANES],
     n: usize,
 ) -> [u64; MOST_TASKS] {
     let mut found = [0; MOST_TASKS];
     let mut t = 0;
     while t < n {
-        cells::set_place(&mut found, t, cells::place(bars, entry(lanes, t)));
+        cells::set_place(&mut found, t, cells::place(rows, entry(lanes, t)));
         t += 1;
     }
     found

@@ -1,5 +1,7 @@
 // How the elements of a picture look: dark on white, and told apart without colours.
+use crate::bars::Sets;
 use crate::cells::plus;
+use crate::key;
 use crate::put;
 use crate::scale;
 use crate::svg;
@@ -47,6 +49,15 @@ fn bars() {
     put::text(b".task:hover .bar{stroke:#c40;stroke-width:25}\n");
 }
 
+// Of a picture with not-before instants.
+fn releases() {
+    put::text(b".open{stroke:#064;stroke-width:10}\n");
+    put::text(b".release{fill:none;stroke:#064;stroke-width:16}\n");
+    put::text(
+        b".released{font-size:100px;font-weight:bold;fill:#064;stroke:#fff;stroke-width:24;text-anchor:middle;stroke-linejoin:round;paint-order:stroke}\n",
+    );
+}
+
 // A print fills a sheet of paper, which lies on its side for a picture that is wide.
 fn paper(bottom: u64) {
     put::text(b"@media print{svg{width:100%;height:auto;max-height:100%}}\n");
@@ -81,9 +92,9 @@ fn size(bottom: u64) {
 }
 
 // The beginning of the picture, down to its white ground and its heading.
-pub fn begin(bottom: u64, response: u64) {
+pub fn begin(bottom: u64, s: Sets, response: u64) {
     put::text(b"<svg xmlns=\"http://www.w3.org/2000/svg\"");
-    size(plus(bottom, 550));
+    size(plus(bottom, key::height(s)));
     put::words(
         b"<title>Timetable of worst times, R = ",
         response,
@@ -92,6 +103,9 @@ pub fn begin(bottom: u64, response: u64) {
     texts();
     lines();
     bars();
+    if s.released != 0 {
+        releases();
+    }
     paper(bottom);
     definitions();
     put::text(b"<rect width=\"100%\" height=\"100%\" fill=\"#fff\"/>\n");

@@ -1,4 +1,5 @@
 // The elements of a picture. Places and sizes are tenths of a pixel; how an element of a class looks stands in style.rt.
+use crate::cells::plus;
 use crate::put;
 
 pub fn attribute(name: &[u8], n: u64) {
@@ -96,6 +97,13 @@ pub fn flag(class: &[u8], x: u64, y: u64) {
 pub fn pointer(class: &[u8], x: u64, y: u64) {
     begin_shape(class, x, y);
     put::text(b"l-75 -40v80z");
+    end_path();
+}
+
+// The mark of a not-before instant: a bracket that hangs below a place and is open to the right.
+pub fn bracket(class: &[u8], x: u64, y: u64) {
+    begin_shape(class, plus(x, 40), y);
+    put::text(b"h-40v70h40");
     end_path();
 }
 

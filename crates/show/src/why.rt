@@ -39,13 +39,18 @@ fn put_units(r: Row) {
     put::text(b" finished");
 }
 
+// What stands between a reason and those before it, if there are any.
+fn put_also(others: bool) {
+    if others {
+        put::text(b"; ");
+    }
+}
+
 fn put_freeing(order: &[usize; MOST_TASKS], n: usize, r: Row) {
     if r.freeing == 0 {
         return;
     }
-    if r.awaited != 0 {
-        put::text(b"; ");
-    }
+    put_also(r.awaited != 0);
     if r.units == 1 {
         put_one_unit(r.kind, held::first_of(order, n, r.freeing));
     } else {
@@ -53,13 +58,19 @@ fn put_freeing(order: &[usize; MOST_TASKS], n: usize, r: Row) {
     }
 }
 
+fn put_released(r: Row) {
+    if !r.released {
+        return;
+    }
+    put_also(!held::waits_for_none(r));
+    put::words(b"its N line: not before ", r.start as u64, b"");
+}
+
 fn put_behind(r: Row) {
     if !r.behind {
         return;
     }
-    if (r.awaited | r.freeing) != 0 {
-        put::text(b"; ");
-    }
+    put_also(!held::waits_for_none(r) | r.released);
     put::text(b"the order: ");
     names::task(r.previous);
     put::text(b", just before it, starts only then");
@@ -71,6 +82,7 @@ fn put_reasons(order: &[usize; MOST_TASKS], n: usize, r: Row) {
     } else {
         put_awaited(r.awaited);
         put_freeing(order, n, r);
+        put_released(r);
         put_behind(r);
     }
 }
@@ -115,6 +127,7 @@ fn put_rows(p: Plan, c: Constraint, s: Simulation, digits: usize, h: Chain, link
             &p.units,
             &s.starts,
             &s.finishes,
+            &p.releases,
             n,
             at,
         );

@@ -2,7 +2,7 @@
 use mathlib.Core.Path.{_≡_, refl, sym, ap, _∙_, subst}
 use mathlib.Core.Bool.{false}
 use mathlib.Core.List.{List}
-use Prim.Native.Nat.{ℕ, _≤_, _<_, zero-le}
+use Prim.Native.Nat.{ℕ, _+_, _≤_, _<_, zero-le}
 use native.Mathlib.Nat.{le-trans, le-of-eq}
 use native.Mathlib.Omega.{arith}
 use borrow.Author.Tests.{eq-eqb, ne-eqb, eqb-true, lt-ltb, le-ltb, not-false}
@@ -19,7 +19,7 @@ use Rattle.plan.specs.Refusals.{refused, firstRefusal, unlessAt, verdict}
 use Rattle.plan.specs.Steps.{Positions}
 use Rattle.plan.proofs.Accepted.{Accepted, accepted, positions}
 use Rattle.dispatch_theory.specs.Sums.{sum}
-use Rattle.runs.specs.Running.{typeOf, worst, allowed, Allowed, bound}
+use Rattle.runs.specs.Running.{typeOf, worst, allowed, Allowed, greatestRelease, bound}
 use Rattle.runs.proofs.Positions.{taskAt, type-entry, worst-entry, worst-short, allowed-most, allowed-lasts, worst-allowed}
 use Rattle.runs.proofs.Theorems.{bound-sum}
 use Rattle.simulation.specs.declared.Simulation.{Simulation}
@@ -103,10 +103,10 @@ module _ (p : Plan) (c : Constraint) {v : Verdict} (ev : v ≡ verdict p c) (f :
   unfolding simulated simulationVerdict firstRefusal
   simulation-refused times = ap notRun ev ∙ rw refuses (rw refuses refl)
 
--- ---- the bound is at most the sum of the worst times
+-- ---- the bound is at most the greatest not-before instant plus the sum of the worst times
 
 pub with-sum : (p : Plan) (c : Constraint) {r : Simulation} → r ≡ worstCase p c
-    → (r ≡ worstCase p c) × (r .response ≤ sum (p .tasks) (worst p c))
+    → (r ≡ worstCase p c) × (r .response ≤ greatestRelease p + sum (p .tasks) (worst p c))
 unfolding worstCase ran notRun bound
 with-sum p c e = (
   e,

@@ -4,7 +4,7 @@ use mathlib.Core.Bool.{true, cond}
 use mathlib.Core.Logic.{⊎-elim}
 use mathlib.Core.List.{List}
 use Prim.Native.Nat.{ℕ, suc, _+_, _*_, _≤_, _<_, max, zero-le}
-use native.Mathlib.Nat.{le-trans, le-of-eq, lt-of-lt-of-le, lt-trans, le-max-left, le-max-right}
+use native.Mathlib.Nat.{le-trans, le-of-eq, lt-of-lt-of-le, lt-trans, le-max-left, le-max-right, max-le}
 use native.Mathlib.Numerals.{add-one}
 use native.Mathlib.Omega.{arith}
 use borrow.Author.Tests.{ltb-true}
@@ -19,14 +19,14 @@ use Rattle.task_set.proofs.Members.{has-none, has-or, has-without}
 use Rattle.task_set.proofs.Tables.{tabulate-cong}
 use Rattle.plan.specs.declared.Plan.{Plan}
 use Rattle.plan.specs.declared.Constraint.{Constraint}
-use Rattle.plan.specs.Rules.{mostTypes, mostUnits, mostTasks, longestTime, lastInstant, predecessorsOf}
+use Rattle.plan.specs.Rules.{mostTypes, mostUnits, mostTasks, longestTime, lastInstant, predecessorsOf, releaseOf}
 use Rattle.plan.proofs.Accepted.{Accepted}
 use Rattle.dispatch_theory.proofs.Greedy.{ends, after}
 use Rattle.dispatch_theory.proofs.Units.{Booked, booked-none, booked-more, start-is, open-now}
 use Rattle.dispatch_theory.specs.Sums.{greatest}
 use Rattle.dispatch_theory.proofs.Sums.{greatest-lub, greatest-le}
 use Rattle.runs.specs.Running.{orZero, horizon, ended, response}
-use Rattle.runs.proofs.Positions.{taskAt, typeAt, position, position-entry, sum-short}
+use Rattle.runs.proofs.Positions.{taskAt, typeAt, position, position-entry, horizon-short}
 use Rattle.runs.proofs.Orders.{orderOf, Lasting, durations, startsOf, startOf, finishOf, greedy}
 use Rattle.runs.proofs.Closed.{timed-closed}
 use Rattle.runs.proofs.Response.{ends-by, ended-start, ended-finish, response-ends}
@@ -100,6 +100,10 @@ module _ {p : Plan} {c : Constraint} (a : Accepted p c) (d : ℕ → ℕ) (posit
     abbrev of-set : ℕ → ℕ
     of-set u = cond (has (without needed past) u) (getD finishes u 0) 0
 
+    -- from this instant on neither its predecessors nor its own not-before instant make it wait
+    abbrev earliest : ℕ
+    earliest = max (latestOf finishes (without needed past)) (releaseOf (p .releases) t)
+
     -- a predecessor stands before, and has finished by the start
     over : (j : ℕ) → j < p .tasks → has needed (taskAt c j) ≡ true → ends S D j ≤ S k
     over j m h =
@@ -109,13 +113,14 @@ module _ {p : Plan} {c : Constraint} (a : Accepted p c) (d : ℕ → ℕ) (posit
 
     -- a predecessor that is not looked at is past
     waited : (j : ℕ) → j < k → has needed (taskAt c j) ≡ true
-        → ends S D j ≤ max (after S k) (latestOf finishes (without needed past))
+        → ends S D j ≤ max (after S k) earliest
     unfolding latestOf
     waited j l h =
         let m : j < p .tasks = lt-trans l low in
         by-test (has past u) (λ g. le-trans (r .past-over j m g) (le-max-left _ _))
         (λ g. let q : of-set u ≡ ends S D j = rw (has-without needed past u, h, g) (finish-known j l) in
-        le-trans (omega (arith, q, greatest-le width of-set u (lt-of-lt-of-le (a .task j m) (a .few-tasks)))) (le-max-right _ _))
+        le-trans (omega (arith, q, greatest-le width of-set u (lt-of-lt-of-le (a .task j m) (a .few-tasks))))
+        (le-trans (le-max-left _ _) (le-max-right _ _)))
       where
         u : ℕ
         u = taskAt c j
@@ -132,15 +137,19 @@ module _ {p : Plan} {c : Constraint} (a : Accepted p c) (d : ℕ → ℕ) (posit
             rw q (le-trans (le-of-eq (ap (λ (y : ℕ). getD finishes y 0) (sym (i .2)) ∙ finish-known (i .0) (i .1)))
             (over (i .0) (lt-trans (i .1) low) (ap (has needed) (i .2) ∙ h)))
 
-    -- the latest of the three is the start
-    pub next-start : {s looked w behind start : ℕ} → s ≡ needed → looked ≡ without s past → w ≡ latestOf finishes looked
-        → behind ≡ max last w
+    -- and its instant has come
+    come : earliest ≤ S k
+    come = max-le looked-over (open-now (orderOf p c) (greedy a d) k low .released)
+
+    -- the latest of all this is the start
+    pub next-start : {s looked w release first behind start : ℕ} → s ≡ needed → looked ≡ without s past
+        → w ≡ latestOf finishes looked → release ≡ releaseOf (p .releases) t → first ≡ max w release → behind ≡ max last first
         → start ≡ max behind (getD free index 0) → start ≡ S k
-    next-start ep el ew eb es =
-        rw (es, eb, ew, el, ep, r .last-is, f .index-is)
+    next-start ep el ew er ef eb es =
+        rw (es, eb, ef, ew, er, el, ep, r .last-is, f .index-is)
         (start-is (orderOf p c) (greedy a d) k low (p .types) (a .type k low) (freeFrom free) (r .booked) (f .unit) (f .low)
         (f .least)
-        _ waited looked-over)
+        _ waited (le-trans (le-max-right _ _) (le-max-right _ _)) come)
 
     -- the unit has its place
     index-low : index < length free
@@ -200,8 +209,7 @@ module _ {p : Plan} {c : Constraint} (a : Accepted p c) (d : ℕ → ℕ) (posit
 
   -- no finish is later than the last instant
   pub finish-short : ((t : ℕ) → t < p .tasks → d t ≤ longestTime) → (k : ℕ) → k < p .tasks → S k + D k ≤ lastInstant
-  unfolding horizon
-  finish-short short k l = omega (arith, ends-by a d positive k l, sum-short a d short)
+  finish-short short k l = le-trans (ends-by a d positive k l) (horizon-short a d short)
 
   -- what the notes of the run have when it is over; a task that is not of the plan has none
   ended-starts : (t : ℕ) → cond (ltb t (p .tasks)) (startOf p c d t) 0 ≡ orZero (ended p c d .start t)

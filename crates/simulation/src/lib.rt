@@ -1,9 +1,9 @@
 // The simulation of a plan under a constraint, and the bound (document 01, "Running rules").
 ghost use mathlib.Core.Path.{_≡_};
-ghost use Prim.Native.Nat.{_≤_};
+ghost use Prim.Native.Nat.{_+_, _≤_};
 ghost use Rattle.plan.specs.Refusals.{refused};
 ghost use Rattle.dispatch_theory.specs.Sums.{sum};
-ghost use Rattle.runs.specs.Running.{worst};
+ghost use Rattle.runs.specs.Running.{greatestRelease, worst};
 ghost use Rattle.simulation.specs.Simulated.{notRun, simulated, worstCase};
 use plan::Constraint;
 use plan::Plan;
@@ -55,9 +55,10 @@ pub fn simulate(p: Plan, c: Constraint, times: &[u32]) -> Simulation
     run(p, c, times)
 }
 
-// The run with the worst times of the chosen types: its response is the bound, at most the sum of these times.
+// The run with the worst times of the chosen types: its response is the bound, at most the greatest not-before instant plus
+// the sum of these times.
 pub fn bound(p: Plan, c: Constraint) -> Simulation
-    ensures { λ r. ⌜ (r ≡ worstCase p c) × (r .response ≤ sum (p .tasks) (worst p c)) ⌝ }
+    ensures { λ r. ⌜ (r ≡ worstCase p c) × (r .response ≤ greatestRelease p + sum (p .tasks) (worst p c)) ⌝ }
 {
     let v = plan::check(p, c);
     if v.number != 0 {

@@ -51,8 +51,8 @@ fn free_first(free: &[u32; ALL_UNITS], ty: usize, units: u32) -> usize
     best
 }
 
-// A position starts no earlier than the position before it, the finishes of its predecessors, and the first
-// instant at which a unit of its type is free; `free` keeps the instant from which each unit is free.
+// A position starts no earlier than the position before it, its task's not-before instant, the finishes of its predecessors,
+// and the first instant at which a unit of its type is free; `free` keeps the instant from which each unit is free.
 // The tasks of `past` have finished by `last`: no finish is looked at twice.
 pub fn run(p: Plan, c: Constraint, times: &[u32]) -> Simulation
     requires { ⌜ Runnable p c (now times) ⌝ }
@@ -72,7 +72,8 @@ pub fn run(p: Plan, c: Constraint, times: &[u32]) -> Simulation
         let unit = free_first(&free, ty, p.units[ty]);
         let needed = plan::predecessors_of(&p.predecessors, t);
         let waited = latest_finish(&finishes, task_set::difference(needed, past));
-        last = later(later(last, waited), free[unit]);
+        let earliest = later(waited, plan::release_of(&p.releases, t));
+        last = later(later(last, earliest), free[unit]);
         past = past | needed;
         let finish = last + times[t];
         starts[t] = last;

@@ -3,7 +3,7 @@ use mathlib.Core.Path.{_≡_}
 use mathlib.Core.Bool.{true}
 use mathlib.Core.List.{List}
 use Prim.Native.Nat.{ℕ, _≤_, _<_, zero-le}
-use native.Mathlib.Nat.{lt-of-lt-of-le}
+use native.Mathlib.Nat.{le-trans, lt-of-lt-of-le}
 use native.Mathlib.Omega.{arith}
 use borrow.Author.Tests.{eqb-true, ltb-true, ltb-false}
 use lib.Dec.{eqb, ltb, leb→le}
@@ -18,8 +18,8 @@ use Rattle.plan.specs.declared.Plan.{Plan}
 use Rattle.plan.specs.declared.Constraint.{Constraint}
 use Rattle.plan.specs.Rules.{mostTasks, latestDeadline, lastInstant, deadlineOf}
 use Rattle.plan.proofs.Accepted.{Accepted}
-use Rattle.runs.specs.Running.{worst, orZero, horizon, ended}
-use Rattle.runs.proofs.Positions.{worst-short, sum-short, worst-allowed, allowed-lasts}
+use Rattle.runs.specs.Running.{worst, orZero, ended}
+use Rattle.runs.proofs.Positions.{worst-short, horizon-short, worst-allowed, allowed-lasts}
 use Rattle.runs.proofs.Orders.{finishOf}
 use Rattle.runs.proofs.Response.{ended-finish, finish-by}
 use Rattle.simulation.specs.declared.Simulation.{Simulation}
@@ -49,13 +49,12 @@ module _ {p : Plan} {c : Constraint} (a : Accepted p c) where
   -- it comes at instant 1 at the earliest, and not after the last instant
   pub finish-between : (t : ℕ) → t < p .tasks → let f = getD (ran p c (worst p c) .finishes) t 0 in
       (1 ≤ f) × (f ≤ lastInstant)
-  unfolding horizon
   finish-between t l =
       let d = worst p c in
       let w = allowed-lasts a d (worst-allowed a) in
       rw (worst-finish t l) (
         omega (arith, w t l),
-        omega (arith, finish-by a d w t l, sum-short a d (worst-short a)),
+        le-trans (finish-by a d w t l) (horizon-short a d (worst-short a)),
       )
 
   slack-between : (t : ℕ) → Between (slackOf (p .deadlines) (ran p c (worst p c) .finishes) t)

@@ -69,7 +69,7 @@ slacksOf p c = slacksIn p (worstCase p c)
 abbrev pub partsOf : ℤ → Parts
 partsOf x = record { negative = ltZ x (pos 0); size = natAbs x }
 
--- ---- "Margins run from −63,999,999 to 999,999" (document 02, 4)
+-- ---- "Margins run from" .. "to 999,999" (document 02, 4), and "may fall to −64,999,999" (document 02, 6)
 
 -- the earliest deadline and the latest finish
 abbrev pub leastSlack : ℤ

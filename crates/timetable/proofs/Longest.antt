@@ -11,15 +11,15 @@ use lib.ListN.{length, length-append}
 use Rattle.task_set.proofs.Tables.{getD-tabulate}
 use Rattle.plan.specs.declared.Plan.{Plan}
 use Rattle.plan.specs.declared.Constraint.{Constraint}
-use Rattle.plan.specs.Rules.{mostTasks, longestTime, lastInstant}
+use Rattle.plan.specs.Rules.{mostTasks, longestTime, latestRelease, lastInstant, releaseOf}
 use Rattle.plan.specs.Refusals.{entryAt}
 use Rattle.plan.proofs.Refusing.{cond-passed, unless-passed}
 use Rattle.plan.proofs.Accepted.{Accepted}
 use Rattle.dispatch_theory.specs.Sums.{sum}
-use Rattle.dispatch_theory.proofs.Sums.{sum-mono, sum-le}
+use Rattle.dispatch_theory.proofs.Sums.{sum-mono, sum-le, greatest-lub}
 use Rattle.dispatch_theory.proofs.Greedy.{bound}
-use Rattle.runs.specs.Running.{worst, Allowed, orZero, horizon, ended, response}
-use Rattle.runs.proofs.Positions.{taskAt, typeAt, position-entry, worst-short, sum-short, by-position}
+use Rattle.runs.specs.Running.{worst, Allowed, orZero, greatestRelease, ended, response}
+use Rattle.runs.proofs.Positions.{taskAt, typeAt, position-entry, worst-short, horizon-short, by-position}
 use Rattle.runs.proofs.Positions.{allowed-lasts, allowed-most, worst-allowed}
 use Rattle.runs.proofs.Orders.{durations, startsOf, lawful, greedy}
 use Rattle.runs.proofs.Response.{ended-start, ended-finish, response-sum}
@@ -38,9 +38,13 @@ sum-apart (suc n) f g h l = omega (arith, sum-apart n f g h (λ i m. l i (le-ste
 abbrev digits : ℕ → ℕ
 digits x = length (decimal x)
 
+-- the latest start of position i: after the latest not-before instant, and i tasks
+abbrev latest : ℕ → ℕ
+latest i = latestRelease + i * longestTime
+
 -- what the line of position i needs beside the task number: type, start, finish, three tabs and the newline
 abbrev beside : ℕ → ℕ
-beside i = digits (i * longestTime) + digits (suc i * longestTime) + 5
+beside i = digits (latest i) + digits (latest (suc i)) + 5
 
 -- at 64 positions
 whole : sum mostTasks digits + sum mostTasks beside + (digits lastInstant + 3) ≡ longestTimetable
@@ -51,12 +55,13 @@ module _ {p : Plan} {c : Constraint} (a : Accepted p c) (d : ℕ → ℕ) (w : A
   short : (t : ℕ) → t < p .tasks → d t ≤ longestTime
   short t l = le-trans (allowed-most a d w t l) (worst-short a t l)
 
-  -- position i starts after at most i times
-  start-by : (i : ℕ) → i < p .tasks → startsOf p c d i ≤ i * longestTime
+  start-by : (i : ℕ) → i < p .tasks → startsOf p c d i ≤ latest i
+  unfolding greatestRelease
   start-by i l =
       omega (
         arith,
         bound (lawful a) (greedy a d) i l,
+        greatest-lub (p .tasks) (releaseOf (p .releases)) latestRelease (λ t m. a .released t),
         sum-le i (λ j. durations c d j + 0) longestTime (λ j m. omega (arith, short (taskAt c j) (a .task j (lt-trans m l)))),
       )
 
@@ -80,12 +85,12 @@ module _ {p : Plan} {c : Constraint} (a : Accepted p c) (d : ℕ → ℕ) (w : A
       (omega (
         arith,
         length-one (typeAt c i) (omega (arith, a .type i l, a .few-types)),
-        decimal-mono (startsOf p c d i) (i * longestTime) (start-by i l),
-        decimal-mono (startsOf p c d i + d t) (suc i * longestTime) (omega (arith, start-by i l, short t m)),
+        decimal-mono (startsOf p c d i) (latest i) (start-by i l),
+        decimal-mono (startsOf p c d i + d t) (latest (suc i)) (omega (arith, start-by i l, short t m)),
       ))
 
   pub longest : length (textOf c (ran p c d)) ≤ longestTimetable
-  unfolding textBy ran horizon
+  unfolding textBy ran
   longest =
       rw (length-append, length-joined) (omega (
         arith,
@@ -97,7 +102,7 @@ module _ {p : Plan} {c : Constraint} (a : Accepted p c) (d : ℕ → ℕ) (w : A
         sum-mono mostTasks digits (p .tasks) (a .few-tasks),
         sum-mono mostTasks beside (p .tasks) (a .few-tasks),
         decimal-mono (response p c d) lastInstant
-            (omega (arith, response-sum a d (allowed-lasts a d w), sum-short a d short)),
+            (le-trans (response-sum a d (allowed-lasts a d w)) (horizon-short a d short)),
       ))
 
 -- ---- the calls that the timetable takes

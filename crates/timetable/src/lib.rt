@@ -21,7 +21,7 @@ pub use refusal::put_refusal;
 pub use slacks::slack_table;
 
 // The bytes of the longest timetable.
-pub const LONGEST_TIMETABLE: usize = 1448;
+pub const LONGEST_TIMETABLE: usize = 1456;
 
 // Bytes enough for every text of margins.
 pub const SLACK_ROOM: usize = 1935;

@@ -1,10 +1,11 @@
-// Texts that name a limit: in a text t stands for the longest time and l for the latest deadline, so that what is stored follows
-// from the limits' names.
+// Texts that name a limit: in a text t stands for the longest time, l for the latest deadline and r for the latest not-before
+// instant, so that what is stored follows from the limits' names.
 ghost use mathlib.Core.Path.{_≡_};
 ghost use Prim.Native.Nat.{_<_};
 ghost use lib.ListN.{length};
 use crate::ROOM;
 use plan::LATEST_DEADLINE;
+use plan::LATEST_RELEASE;
 use plan::LONGEST_TIME;
 
 // One byte more, where there is room for it.
@@ -55,6 +56,9 @@ fn put_letter(b: u8, text: &mut [u8; ROOM], n: usize) -> usize
     }
     if b == b'l' {
         return put_digits(LATEST_DEADLINE, text, n);
+    }
+    if b == b'r' {
+        return put_digits(LATEST_RELEASE, text, n);
     }
     put_byte(b, text, n)
 }

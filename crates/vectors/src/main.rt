@@ -41,6 +41,7 @@ fn show_plan(p: Plan) {
     put_named(b"worst", plan::time_of(&p.wcet, 3, 1) as u64);
     put_named(b"predecessors", plan::predecessors_of(&p.predecessors, 3));
     put_named(b"deadline", plan::deadline_of(&p.deadlines, 3) as u64);
+    put_named(b"release", plan::release_of(&p.releases, 3) as u64);
 }
 
 fn show_constraint(c: Constraint) {

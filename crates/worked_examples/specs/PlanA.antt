@@ -13,25 +13,35 @@ times t0 t1 t2 t3 t3′ t4 =
     set (set (set (set (set (set (replicate mostPairs 0) (pairIndex 0 0) t0) (pairIndex 1 0) t1) (pairIndex 2 1) t2)
     (pairIndex 3 0) t3) (pairIndex 3 1) t3′) (pairIndex 4 0) t4
 
--- plan A with so many units of type 1, a worst time of task 4, and deadlines of its tasks and of number 5, which is absent
--- (document 02, 2)
-unfoldable pub planWith : ℕ → ℕ → List ℕ → Plan
-planWith units time deadlines =
+-- plan A with so many units of type 1, a worst time of task 4, and deadlines (document 02, 2) and not-before instants (document
+-- 02, 6) of its tasks and of number 5, which is absent
+unfoldable pub planWith : ℕ → ℕ → List ℕ → List ℕ → Plan
+planWith units time deadlines releases =
     planOf 2 (1 ∷ units ∷ replicate 6 0) 5 (times 1 1 2 2 1 1) (times 2 3 4 5 3 time) (0 ∷ 0 ∷ 1 ∷ 2 ∷ 4 ∷ replicate 59 0)
-    (deadlines ++ replicate 58 0)
+    (deadlines ++ replicate 58 0) (releases ++ replicate 58 0)
 
--- with one unit, with another worst time, or with deadlines
+abbrev pub none : List ℕ
+none = replicate 6 0
+
+-- with one unit, with another worst time, with deadlines, or with not-before instants
 unfoldable pub planOne : Plan
-planOne = planWith 1 2 (replicate 6 0)
+planOne = planWith 1 2 none none
 
 unfoldable pub planLong : ℕ → Plan
-planLong time = planWith 2 time (replicate 6 0)
+planLong time = planWith 2 time none none
 
 unfoldable pub planDue : List ℕ → Plan
-planDue = planWith 2 2
+planDue deadlines = planWith 2 2 deadlines none
+
+unfoldable pub planFrom : List ℕ → Plan
+planFrom = planWith 2 2 none
 
 unfoldable pub planA : Plan
-planA = planDue (replicate 6 0)
+planA = planDue none
+
+-- with the line N 1 4: task 1 does not start before 4
+unfoldable pub planWarm : Plan
+planWarm = planFrom (0 ∷ 4 ∷ 0 ∷ 0 ∷ 0 ∷ 0 ∷ [])
 
 -- five entries of task and type
 unfoldable pub fiveEntries : List ℕ → List ℕ → Constraint

@@ -3,7 +3,7 @@
 use mathlib.Core.Bool.{cond}
 use mathlib.Core.Path.{_≡_}
 use mathlib.Core.List.{List, [], _∷_, _++_}
-use Prim.Native.Nat.{ℕ, zero, suc}
+use Prim.Native.Nat.{ℕ, zero, suc, _+_}
 use lib.Dec.{eqb}
 use lib.IntN.{ℤ, pos, negsuc}
 use lib.ListN.{take, replicate}
@@ -13,14 +13,15 @@ use Rattle.plan.specs.declared.Constraint.{Constraint}
 use Rattle.plan.specs.declared.Verdict.{Verdict}
 use Rattle.plan.specs.Rules.{lastInstant, timeOf}
 use Rattle.plan.specs.Refusals.{noPlan, noConstraint, verdict}
-use Rattle.runs.specs.Running.{typeOf, worst, orZero, ended, response, bound}
+use Rattle.runs.specs.Running.{typeOf, worst, orZero, horizon, ended, response, bound}
+use Rattle.runs.specs.Progress.{stage, level}
 use Rattle.runs.specs.Journal.{Answer, openingAnswer, journal, answers}
 use Rattle.simulation.specs.Simulated.{simulationVerdict}
 use Rattle.adoption.specs.declared.Record.{Record}
 use Rattle.adoption.specs.Schedules.{listed as scheduled, greatestFinish, adopted}
 use Rattle.slack.specs.declared.Slacks.{Slacks}
 use Rattle.slack.specs.Margins.{slackAt, slacksOf, leastSlack, greatestSlack}
-use Rattle.worked_examples.specs.PlanA.{planOne, planLong, planDue, planA, fiveEntries, orderA, orderB}
+use Rattle.worked_examples.specs.PlanA.{none, planOne, planLong, planDue, planFrom, planA, planWarm, fiveEntries, orderA, orderB}
 
 -- the starts by task number, and the response
 unfoldable pub run : Plan → Constraint → (ℕ → ℕ) → List ℕ
@@ -45,8 +46,11 @@ unfoldable pub listed : List Answer → List ℕ
 listed [] = []
 listed (a ∷ rest) = numbers a ++ listed rest
 
+unfoldable pub ticksOn : Plan → List ℕ → List ℕ
+ticksOn p reports = numbers (openingAnswer p orderA) ++ listed (answers p orderA reports)
+
 unfoldable pub ticks : List ℕ → List ℕ
-ticks reports = numbers (openingAnswer planA orderA) ++ listed (answers planA orderA reports)
+ticks = ticksOn planA
 
 -- the finishes that are noted after the reports, by task number
 unfoldable pub finishes : List ℕ → List ℕ
@@ -76,13 +80,24 @@ lasting time = check (planLong time) orderA
 unfoldable pub due : ℕ → ℕ → List ℕ
 due d absent = check (planDue (0 ∷ 0 ∷ 0 ∷ 0 ∷ d ∷ absent ∷ [])) orderA
 
+-- what the check says to these not-before instants of the same two
+unfoldable pub from : ℕ → ℕ → List ℕ
+from r absent = check (planFrom (0 ∷ 0 ∷ 0 ∷ 0 ∷ r ∷ absent ∷ [])) orderA
+
+-- how far task 1 is (0 waiting, 1 ready, 2 running, 3 finished) after these reports on the plan with N 1 4
+unfoldable pub reached : List ℕ → List ℕ
+reached reports = level (stage planWarm (worst planWarm orderA) (journal planWarm orderA reports) 1) ∷ []
+
 -- a record of a schedule: task, type, start and finish
 abbrev pub rec : ℕ → ℕ → ℕ → ℕ → Record
 rec task type start finish = record { task = task; «unit_type» = type; start = start; finish = finish }
 
 -- what becomes of a list: number, place and length of the constraint
+unfoldable pub adoptOn : Plan → List Record → List ℕ
+adoptOn p records = let a = adopted p (scheduled records) in a .number ∷ a .place ∷ a .constraint .len ∷ []
+
 unfoldable pub adopt : List Record → List ℕ
-adopt records = let a = adopted planA (scheduled records) in a .number ∷ a .place ∷ a .constraint .len ∷ []
+adopt = adoptOn planA
 
 -- of an accepted one the first six tasks and types too, the bound and the list's greatest finish
 unfoldable pub adoptFully : List Record → List ℕ
@@ -94,6 +109,10 @@ adoptFully records =
 abbrev pub withTask4 : ℕ → ℕ → ℕ → List Record
 withTask4 type start finish = rec 0 0 0 2 ∷ rec 1 0 2 5 ∷ rec 2 1 2 6 ∷ rec 3 1 5 8 ∷ rec 4 type start finish ∷ []
 
+-- a list for the plan with N 1 4, with task 1 from this start on
+abbrev pub warm : ℕ → List Record
+warm start = rec 0 0 0 2 ∷ rec 1 0 start (start + 3) ∷ rec 2 1 4 8 ∷ rec 3 1 7 10 ∷ rec 4 0 8 10 ∷ []
+
 -- ---- the table: what is computed, and what the documents say that it is
 
 pub record Row : Type 0 where
@@ -103,14 +122,28 @@ pub record Row : Type 0 where
 abbrev pub row : List ℕ → List ℕ → Row
 row computed stated = record { computed = computed; stated = stated }
 
--- times and deadlines up to their limits and above, a deadline of an absent task; then what follows from the limits: the last
--- instant, the least and the greatest margin (document 02, 4)
+-- times, deadlines and not-before instants up to their limits and above, one of an absent task; then what follows from the limits:
+-- the last instant, the least and the greatest margin (document 02, 4 and 6)
 unfoldable pub limitTable : List Row
 limitTable =
     row (lasting 65536 ++ lasting 1000000 ++ lasting 1000001) (0 ∷ 0 ∷ 0 ∷ 0 ∷ 8 ∷ 0 ∷ [])
     ∷ row (due 65536 0 ++ due 1000000 0 ++ due 1000001 0 ++ due 1000000 1) (0 ∷ 0 ∷ 0 ∷ 0 ∷ 8 ∷ 0 ∷ 8 ∷ 0 ∷ [])
-    ∷ row (lastInstant ∷ over leastSlack ++ over greatestSlack) (64000000 ∷ 0 ∷ 63999999 ∷ 999999 ∷ 0 ∷ [])
+    ∷ row (from 1000000 0 ++ from 1000001 0 ++ from 1000000 1) (0 ∷ 0 ∷ 8 ∷ 0 ∷ 8 ∷ 0 ∷ [])
+    ∷ row (lastInstant ∷ over leastSlack ++ over greatestSlack) (65000000 ∷ 0 ∷ 64999999 ∷ 999999 ∷ 0 ∷ [])
     ∷ []
+
+-- plan A with the line N 1 4 (document 02, 6): its run, where task 2 waits behind task 1 in the order; a live run in which nothing runs
+-- from instant 1 to 3 and task 1 waits only for its instant, ready at 3 and running at 4; plan A's own timetable as a list, in which
+-- task 1 starts too soon, one instant too soon, and at its instant; and the bound beside the most that it can be
+unfoldable pub releaseTable : List Row
+releaseTable =
+    row (run planWarm orderA (worst planWarm orderA)) (0 ∷ 4 ∷ 4 ∷ 7 ∷ 8 ∷ 10 ∷ [])
+    ∷ row (ticksOn planWarm (1 ∷ 0 ∷ 0 ∷ 0 ∷ [])) (0 ∷ 0 ∷ 1 ∷ 0 ∷ 0 ∷ 0 ∷ 0 ∷ 0 ∷ 0 ∷ 0 ∷ 0 ∷ 0 ∷ 0 ∷ 0 ∷ 6 ∷ [])
+    ∷ row (reached (1 ∷ 0 ∷ 0 ∷ []) ++ reached (1 ∷ 0 ∷ 0 ∷ 0 ∷ [])) (1 ∷ 2 ∷ [])
+    ∷ row (adoptOn planWarm (withTask4 0 6 8)) (22 ∷ 1 ∷ 0 ∷ [])
+    ∷ row (adoptOn planWarm (warm 3) ++ adoptOn planWarm (warm 4)) (22 ∷ 1 ∷ 0 ∷ 0 ∷ 0 ∷ 5 ∷ [])
+    ∷ row (bound planWarm orderA ∷ horizon planWarm (worst planWarm orderA) ∷ []) (10 ∷ 18 ∷ [])
+    ∷ limitTable
 
 -- schedules of plan A (document 02, 5): its own timetable, last record first, where task 1 starts at the finish of task 0 on the
 -- same unit; one with gaps, whose bound is smaller than its greatest finish; one where task 2 starts before task 1 and does not finish
@@ -135,14 +168,14 @@ scheduleTable =
     ∷ row (adopt (withTask4 0 5 7) ++ adopt (withTask4 0 4294967293 4294967295)) (22 ∷ 4 ∷ 0 ∷ 0 ∷ 0 ∷ 5 ∷ [])
     ∷ row (adopt (rec 0 0 0 2 ∷ rec 1 0 1 4 ∷ rec 2 1 2 6 ∷ rec 3 1 4 7 ∷ rec 4 0 6 8 ∷ [])) (22 ∷ 1 ∷ 0 ∷ [])
     ∷ row (adopt (rec 0 0 0 2 ∷ rec 1 0 1 4 ∷ rec 2 1 2 6 ∷ rec 3 1 4 7 ∷ rec 4 0 6 9 ∷ [])) (21 ∷ 4 ∷ 0 ∷ [])
-    ∷ limitTable
+    ∷ releaseTable
 
 -- margins on plan A: late by one, just in time and early; equal ones, and tasks without deadline; none (document 02, 2)
 unfoldable pub marginTable : List Row
 marginTable =
     row (margins (3 ∷ 5 ∷ 5 ∷ 0 ∷ 9 ∷ 0 ∷ [])) (1 ∷ 0 ∷ 1 ∷ 2 ∷ 1 ∷ 0 ∷ 0 ∷ 0 ∷ 0 ∷ 1 ∷ 0 ∷ 0 ∷ 1 ∷ 0 ∷ [])
     ∷ row (margins (0 ∷ 7 ∷ 0 ∷ 10 ∷ 0 ∷ 0 ∷ [])) (1 ∷ 2 ∷ 0 ∷ 1 ∷ 0 ∷ 0 ∷ 2 ∷ 0 ∷ 0 ∷ 0 ∷ 2 ∷ 0 ∷ 0 ∷ 0 ∷ [])
-    ∷ row (margins (replicate 6 0)) (replicate 14 0)
+    ∷ row (margins none) (replicate 14 0)
     ∷ scheduleTable
 
 unfoldable pub table : List Row

@@ -12,11 +12,13 @@ pub fn check(plan: &Plan, constraint: &Constraint) -> Result<(), Refusal> {
     check_order(plan, constraint)
 }
 
-/// The rules of "The plan", with its deadlines.
+/// The rules of "The plan", with its deadlines and not-before instants.
 pub(super) fn keeps_the_rules(plan: &Plan) -> bool {
     let sized = plan.counts_are_right() && units_are_right(plan);
     let right = sized && pairs_are_right(plan) && predecessors_are_right(plan);
-    right && deadlines_are_right(plan)
+    right
+        && instants_are_right(plan, &plan.deadlines, LATEST_DEADLINE)
+        && instants_are_right(plan, &plan.releases, LATEST_RELEASE)
 }
 
 /// Refusals 9 to 11 by position; bit p of a set stands for position p.
@@ -80,8 +82,9 @@ fn predecessors_are_right(plan: &Plan) -> bool {
     absent.iter().fold(wrong, |all, set| all | set) == 0
 }
 
-fn deadlines_are_right(plan: &Plan) -> bool {
-    let (present, absent) = plan.deadlines.split_at(plan.tasks as usize);
-    let wrong = present.iter().fold(false, |wrong, &deadline| wrong | (deadline > LATEST_DEADLINE));
+/// One instant for each task, up to the latest; 0 for absent tasks.
+fn instants_are_right(plan: &Plan, instants: &[u32; TASKS], latest: u32) -> bool {
+    let (present, absent) = instants.split_at(plan.tasks as usize);
+    let wrong = present.iter().fold(false, |wrong, &instant| wrong | (instant > latest));
     !wrong && all_zero(absent)
 }

@@ -12,6 +12,7 @@ enum Kind {
     T,
     A,
     D,
+    N,
     C,
 }
 
@@ -27,6 +28,8 @@ struct Reading {
     constraint: Constraint,
     kind: Kind,
     with_times: u64,
+    /// The tasks that have an N line, which may say 0.
+    with_release: u64,
     in_order: u64,
 }
 
@@ -40,6 +43,7 @@ pub fn read(text: &[u8]) -> Result<(Plan, Constraint), Refusal> {
         constraint: Constraint::zero(),
         kind: Kind::U,
         with_times: 0,
+        with_release: 0,
         in_order: 0,
     };
     let mut place = 0;
@@ -106,6 +110,7 @@ impl Reading {
             b'T' => self.times(cursor.fields()?),
             b'A' => self.arrow(cursor.fields()?),
             b'D' => self.deadline(cursor.fields()?),
+            b'N' => self.release(cursor.fields()?),
             b'C' => self.choice(cursor.fields()?),
             _ => Err(2),
         }
@@ -159,6 +164,16 @@ impl Reading {
         number_if(self.with_times >> task & 1 == 0, 6)?;
         number_if(self.plan.deadlines[task] != 0, 7)?;
         self.plan.deadlines[task] = deadline as u32;
+        Ok(())
+    }
+
+    fn release(&mut self, [task, release]: [usize; 2]) -> Result<(), Number> {
+        number_if(task >= TASKS || release > LATEST_RELEASE as usize, 3)?;
+        self.follows(Kind::N)?;
+        number_if(self.with_times >> task & 1 == 0, 6)?;
+        number_if(self.with_release >> task & 1 == 1, 7)?;
+        self.plan.releases[task] = release as u32;
+        self.with_release |= 1 << task;
         Ok(())
     }
 

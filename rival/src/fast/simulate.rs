@@ -45,7 +45,8 @@ fn outside(plan: &Plan, constraint: &Constraint, times: &[u32; TASKS]) -> u64 {
 
 /// The run with one time for each task. Only for accepted plans and constraints.
 /// No task starts before the one ahead of it in the order, so each start is the
-/// greatest of that start, the predecessors' finishes and the first free unit.
+/// greatest of that start, its own not-before instant, the predecessors' finishes
+/// and the first free unit.
 fn run(plan: &Plan, constraint: &Constraint, times: &[u32; TASKS]) -> Times {
     let mut result = Times::zero();
     let mut free_at = [[0u32; UNITS]; TYPES];
@@ -61,7 +62,7 @@ fn run(plan: &Plan, constraint: &Constraint, times: &[u32; TASKS]) -> Times {
         }
         let units = &mut free_at[kind][..plan.units[kind] as usize];
         let Some(unit) = units.iter_mut().min() else { continue };
-        now = now.max(*unit);
+        now = now.max(*unit).max(plan.releases[task]);
         let finish = now + times[task];
         *unit = finish;
         result.starts[task] = now;

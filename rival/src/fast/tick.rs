@@ -85,7 +85,8 @@ fn walk(state: &mut State, mut users: [u64; TYPES]) -> u64 {
     for p in state.started as usize..plan.tasks as usize {
         let (task, kind) = (constraint.task[p] as usize, constraint.kind[p] as usize);
         let waiting = plan.predecessors[task] & !state.finished != 0;
-        if waiting || users[kind].count_ones() >= plan.units[kind] {
+        let too_soon = state.instant < plan.releases[task];
+        if waiting || too_soon || users[kind].count_ones() >= plan.units[kind] {
             break;
         }
         users[kind] |= 1 << task;
@@ -120,7 +121,7 @@ fn look_over_started(state: &State) -> Option<(Look, u64)> {
         let (task, kind) = (constraint.task[p] as usize, constraint.kind[p] as usize);
         let (start, finish) = (starts[task], finishes[task]);
         started |= 1 << task;
-        if start > *instant {
+        if start > *instant || start < plan.releases[task] {
             return None;
         }
         if state.finished >> task & 1 == 1 {

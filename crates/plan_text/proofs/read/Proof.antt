@@ -92,8 +92,8 @@ bounds e =
     )
 
 -- past what a line adds to the plan, and to the constraint
-abbrev past-plan : tie.After-deadlines Inv-loop μ-loop → tie.Else2 Inv-loop μ-loop
-past-plan q = q .before .before .before .before .before .before .before .before .before .before .before .before
+abbrev past-plan : tie.After-instants2 Inv-loop μ-loop → tie.Else2 Inv-loop μ-loop
+past-plan q = q .before .before .before .before .before .before .before .before .before .before .before .before .before .before
 
 abbrev past : tie.After-seen Inv-loop μ-loop → tie.Else2 Inv-loop μ-loop
 past c = past-plan (c .before .before .before .before .before .before)
@@ -127,7 +127,8 @@ loop-again c =
     let n = c .before in
     let h = n .before in
     let o = h .before .before in
-    let v = o .before .before in
+    let z = o .before .before in
+    let v = z .before .before in
     let q = v .before .before in
     let w = q .before .before in
     let b = w .before .before in
@@ -147,7 +148,8 @@ loop-again c =
         bcet = b .times .ensures i;
         wcet = w .times2 .ensures i;
         predecessors = q .predecessors .ensures i;
-        deadlines = v .deadlines .ensures i;
+        deadlines = v .instants .ensures i;
+        releases = z .instants2 .ensures i;
       };
       constraint = record { len = n .counted2 .ensures i; order = o .entries .ensures i; chosen = h .entries2 .ensures i };
       seen = c .seen .ensures i;
@@ -183,6 +185,7 @@ read-spec =
     (λ c κs. (search needs, range (c .before .before .before .before .before .before .before)))
     (λ c κs. range (c .before .before .before .before .before .before .before .before .before))
     (λ c κs. range (c .before .before .before .before .before .before .before .before .before .before .before))
+    (λ c κs. range (c .before .before .before .before .before .before .before .before .before .before .before .before .before))
     (λ c κs. (search needs, roomy (past-plan (c .before))))
     (λ c κs. (search needs, roomy (past-plan (c .before .before .before)))) len-fits (λ c κs. search needs)
     (λ c. omega (arith, bounds (past c))) (λ c. omega (arith, few (past c))) (λ c. omega (arith, bounds (past c)))

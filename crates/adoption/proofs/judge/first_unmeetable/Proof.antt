@@ -8,11 +8,11 @@ use Rattle.adoption.proofs.judge.first_unmeetable.Statement.{statement}
 use Rattle.adoption.proofs.judge.first_unmeetable.Tie as tie
 
 abbrev Inv-loop : tie.InvT-loop
-Inv-loop units predecessors len tasks used starts finishes sets i₀ i =
-    Searched len (unmeetable units predecessors (scheduleOf len tasks used starts finishes)) i
+Inv-loop units predecessors releases len tasks used starts finishes sets i₀ i =
+    Searched len (unmeetable units predecessors releases (scheduleOf len tasks used starts finishes)) i
 
 abbrev μ-loop : tie.MeasureT-loop
-μ-loop units predecessors len tasks used starts finishes sets i₀ i = len - i
+μ-loop units predecessors releases len tasks used starts finishes sets i₀ i = len - i
 
 loop-holds : tie.Need-loop-holds Inv-loop μ-loop
 loop-holds c = searched-none

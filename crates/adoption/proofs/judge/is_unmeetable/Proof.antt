@@ -13,12 +13,12 @@ use Rattle.adoption.proofs.judge.is_unmeetable.Statement.{statement}
 use Rattle.adoption.proofs.judge.is_unmeetable.Tie as tie
 
 abbrev Inv-loop : tie.InvT-loop
-Inv-loop units predecessors len tasks members used starts finishes i needed k start hasty₀ holders₀ j₀ hasty holders j =
+Inv-loop units predecessors releases len tasks members used starts finishes i t needed release k start hasty₀ holders₀ j₀ hasty holders j =
     Upto (λ (n : ℕ). any n (delays needed (scheduleOf len tasks used starts finishes) start)) len j hasty
     × Upto (λ (n : ℕ). count n (holds (scheduleOf len tasks used starts finishes) k start)) len j holders
 
 abbrev μ-loop : tie.MeasureT-loop
-μ-loop units predecessors len tasks members used starts finishes i needed k start hasty₀ holders₀ j₀ hasty holders j =
+μ-loop units predecessors releases len tasks members used starts finishes i t needed release k start hasty₀ holders₀ j₀ hasty holders j =
     len - j
 
 loop-holds : tie.Need-loop-holds Inv-loop μ-loop
@@ -27,7 +27,7 @@ loop-holds c = (upto-none refl, upto-none refl)
 
 -- from the loop back to the needed tasks, and to the beginning
 abbrev wanted : tie.At-loop Inv-loop μ-loop → tie.After-predecessors-of Inv-loop μ-loop
-wanted l = l .before .before .before
+wanted l = l .before .before .before .before
 
 abbrev begun : tie.At-loop Inv-loop μ-loop → tie.Start Inv-loop μ-loop
 begun l = wanted l .before .before .before
@@ -64,14 +64,15 @@ returns : tie.Need-returns Inv-loop μ-loop
 returns c =
     let t = c .before .before in
     let w = wanted (t .before) in
-    unmeetable-by _ _ _ _ (w .before .wide .ensures) (w .predecessors-of .ensures) (c .before .wide2 .ensures)
+    unmeetable-by _ _ _ _ _ (w .before .wide .ensures) (w .predecessors-of .ensures)
+    (t .before .before .before .before .release-of .ensures) (c .before .wide2 .ensures)
     (upto-end (t .before .loop .inv .0) (t .loop-test .left))
     (upto-end (t .before .loop .inv .1) (t .loop-test .left))
 
 pub is-unmeetable-spec : {M : Type 1} → statement M
 is-unmeetable-spec =
     tie.close
-    (tie.spec Inv-loop μ-loop (λ c. search needs) (λ c. search needs) (λ c κs. search needs) (λ c κs. search needs)
+    (tie.spec Inv-loop μ-loop (λ c. search needs) (λ c. search needs) (λ c κs. search needs) (λ c κs. search needs) (λ c κs. search needs)
     (λ c. search needs) (λ c. search needs) (λ c. search needs) (λ c. search needs) loop-holds (λ c. search needs)
     (λ c. search needs) (λ c. search needs) (λ c. search needs) (λ c κs. search needs) (λ c. search needs)
     (λ c. search needs) (λ c. search needs) (λ c. search needs) (λ c κs. search needs) add-holders

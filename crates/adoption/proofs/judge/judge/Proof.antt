@@ -15,7 +15,7 @@ abbrev past-20 : tie.After-first-mistimed → tie.Else2
 past-20 c = c .before .before .before .before .before .before .before .before
 
 abbrev past-21 : tie.After-first-unmeetable → tie.Else3
-past-21 c = c .before .before .before .before .before .before .before .before .before
+past-21 c = c .before .before .before .before .before .before .before .before .before .before
 
 -- the plan and the schedule that are handed over
 abbrev asked : tie.After-check → Plan × Schedule
@@ -48,7 +48,7 @@ returns-3 c =
 
 first-unmeetable-requires : tie.Need-first-unmeetable-requires
 first-unmeetable-requires c κs =
-    let e = c .before .before .before .before .before .before .before .before in
+    let e = c .before .before .before .before .before .before .before .before .before in
     let o = passed (past-20 (e .before)) in (
       le-trans (le-of-eq (o .whole)) (few-tasks _ (o .kept)),
       types-known _ _ o (e .before .first-mistimed .ensures) (e .if3 .left),

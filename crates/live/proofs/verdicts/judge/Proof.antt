@@ -25,7 +25,7 @@ passed c = passed-first _ (c .before .before .check .ensures) (c .if1 .left)
 
 -- back to the marks, by way of what was computed since, and to where the first two tests are passed
 abbrev from-sound : tie.After-is-sound → tie.After-is-over
-from-sound c = c .before .before .before .before .before .before
+from-sound c = c .before .before .before .before .before .before .before
 
 abbrev first-two : tie.After-mark-positions → tie.Else1
 first-two c = c .before .before .before .before .before .before .before

@@ -9,7 +9,7 @@ pub walk-on-spec : {M : Type 1} → statement M
 walk-on-spec =
     tie.close (tie.spec
     (λ c κs. positions _ _
-    (accepted _ _ (c .before .before .before .before .before .before .before .before .before .pre .tidy .checked)))
+    (accepted _ _ (c .before .before .before .before .before .before .before .before .pre .tidy .checked)))
     (λ c κs. search needs)
-    (λ c. walked-by _ (c .before .before .before .before .before .before .before .before .before .before .before .before .pre)
+    (λ c. walked-by _ (c .before .before .before .before .before .before .before .before .before .before .before .pre)
     (c .before .before .walk .ensures) (c .difference .ensures)))

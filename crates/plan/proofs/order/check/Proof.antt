@@ -12,7 +12,7 @@ use Rattle.plan.proofs.order.check.Statement.{statement}
 use Rattle.plan.proofs.order.check.Tie as tie
 
 abbrev start : tie.Else1 → tie.Start
-start c = c .before .before .before .before .before .before .before .before
+start c = c .before .before .before .before .before .before .before .before .before
 
 kept : (c : tie.Else1) → planOk (start c .args .t1) ≡ true
 kept c = sym (c .before .rules-hold .ensures) ∙ not-false _ (c .if1 .left)

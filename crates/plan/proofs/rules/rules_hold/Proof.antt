@@ -19,13 +19,14 @@ returns c = rw (sym (c .before .counts-ok .ensures) ∙ not-true _ (c .if1 .take
 returns-2 : tie.Need-returns-2
 unfolding planOk
 returns-2 c =
-    let t = c .before in
+    let t = c .before .before in
     rw (counted (t .before .before .before))
     (ap₂ _&&_ (t .before .before .all-units-ok .ensures)
     (ap₂ _&&_ (ap₂ _&&_ (t .before .all-pairs-fit .ensures) (t .all-tasks-ok .ensures) ∙ sym (tasks-parts _ _ _ _ _))
-    (c .all-deadlines-ok .ensures)))
+    (ap₂ _&&_ (c .before .all-instants-ok .ensures) (c .all-instants-ok2 .ensures))))
 
 pub rules-hold-spec : {M : Type 1} → statement M
 rules-hold-spec =
     tie.close (tie.spec (λ c κs. search needs) returns (λ c κs. search needs) (λ c κs. search needs)
-    (λ c κs. counted-types _ _ (counted (c .before .before))) (λ c κs. search needs) returns-2)
+    (λ c κs. counted-types _ _ (counted (c .before .before))) (λ c κs. search needs) (λ c κs. search needs)
+    returns-2)

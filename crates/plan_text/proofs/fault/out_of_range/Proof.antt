@@ -19,7 +19,9 @@ out-of-range-spec =
     tie.close (tie.spec (λ c. search needs) (λ c κs. search needs) (λ c. search needs) (λ c κs. search needs)
     (λ c κs. search needs) (λ c κs. search needs) (λ c κs. search needs) (λ c. search needs) (λ c κs. search needs)
     (λ c κs. search needs) (λ c. search needs) (λ c κs. search needs) (λ c κs. search needs) (λ c. search needs)
-    (λ c κs. search needs) (λ c κs. search needs) (λ c. rw (c .before .before .line .given .1, c .is-type .ensures)) returns-2
+    (λ c κs. search needs) (λ c κs. search needs) (λ c. search needs) (λ c κs. search needs) (λ c κs. search needs)
+    (λ c. rw (c .before .before .line .given .1, c .is-type .ensures)) returns-2
     (λ c. rw (c .before .before .before .line3 .given .1, c .before .is-task2 .ensures, c .is-task3 .ensures))
     (λ c. rw (c .before .before .before .line4 .given .1, c .before .is-task4 .ensures, c .is-deadline .ensures))
-    (λ c. rw (c .before .before .before .line5 .given .1, c .before .is-task5 .ensures, c .is-type3 .ensures)))
+    (λ c. rw (c .before .before .before .line5 .given .1, c .before .is-task5 .ensures, c .is-release .ensures))
+    (λ c. rw (c .before .before .before .line6 .given .1, c .before .is-task6 .ensures, c .is-type3 .ensures)))

@@ -29,11 +29,18 @@ returns-5 c =
 returns-6 : tie.Need-returns-6
 unfolding formOf
 returns-6 c =
-    let k = c .before .before in
-    rw (k .before .before .if1 .left, k .before .if2 .left, k .if3 .left, c .before .if4 .left, c .if5 .left)
+    let k = c .before .before .before in
+    rw (k .before .before .if1 .left, k .before .if2 .left, k .if3 .left, c .before .before .if4 .left, c .before .if5 .left, c .if6 .taken)
+
+returns-7 : tie.Need-returns-7
+unfolding formOf
+returns-7 c =
+    let k = c .before .before .before in
+    rw (k .before .before .if1 .left, k .before .if2 .left, k .if3 .left, c .before .before .if4 .left, c .before .if5 .left, c .if6 .left)
 
 pub form-of-spec : {M : Type 1} → statement M
 form-of-spec =
     tie.close (tie.spec (λ c. search needs) (λ c. search needs) returns (λ c. search needs) (λ c. search needs)
     (λ c. search needs) (λ c. search needs) returns-2 (λ c. search needs) (λ c. search needs) returns-3
-    (λ c. search needs) (λ c. search needs) returns-4 (λ c. search needs) (λ c. search needs) returns-5 returns-6)
+    (λ c. search needs) (λ c. search needs) returns-4 (λ c. search needs) (λ c. search needs) returns-5
+    (λ c. search needs) (λ c. search needs) returns-6 returns-7)

@@ -5,12 +5,13 @@ use Rattle.show.proofs.bars.strokes.Statement.{statement}
 use Rattle.show.proofs.bars.strokes.Tie as tie
 
 abbrev Inv-loop : tie.InvT-loop
-Inv-loop dues ys tasks height n t₀ t = Unit {0}
+Inv-loop class instants ys above ends below tasks n t₀ t = Unit {0}
 
 abbrev μ-loop : tie.MeasureT-loop
-μ-loop dues ys tasks height n t₀ t = n - t
+μ-loop class instants ys above ends below tasks n t₀ t = n - t
 
 pub strokes-spec : {M : Type 1} → statement M
 strokes-spec =
     tie.close (tie.spec Inv-loop μ-loop (λ c. tt) (λ c κs. search needs) (λ c κs. search needs) (λ c κs. search needs)
-    (λ c κs. search needs) (λ c. search needs) (λ c. search needs) (λ c. tt) (λ c. search needs))
+    (λ c κs. search needs) (λ c κs. search needs) (λ c κs. search needs) (λ c κs. search needs) (λ c. search needs)
+    (λ c. search needs) (λ c. tt) (λ c. search needs))

@@ -12,5 +12,5 @@ abbrev μ-loop : tie.MeasureT-loop
 pub traced-spec : {M : Type 1} → statement M
 traced-spec =
     tie.close (tie.spec Inv-loop μ-loop (λ c κs. search needs) (λ c. tt) (λ c. search needs) (λ c κs. search needs)
-    (λ c κs. search needs) (λ c κs. search needs) (λ c κs. search needs) (λ c κs. search needs) (λ c. search needs) (λ c. tt)
+    (λ c κs. search needs) (λ c κs. search needs) (λ c κs. search needs) (λ c κs. search needs) (λ c κs. search needs) (λ c. search needs) (λ c. tt)
     (λ c. search needs) (λ c. search needs) (λ c. tt))

@@ -8,7 +8,7 @@ abbrev Inv-loop : tie.InvT-loop
 Inv-loop text letter place kind₀ i₀ kind i = Unit {0}
 
 abbrev μ-loop : tie.MeasureT-loop
-μ-loop text letter place kind₀ i₀ kind i = 4 - i
+μ-loop text letter place kind₀ i₀ kind i = 5 - i
 
 pub first-later-spec : {M : Type 1} → statement M
 first-later-spec =

@@ -5,13 +5,12 @@ use Rattle.show.proofs.picture.tasks.Statement.{statement}
 use Rattle.show.proofs.picture.tasks.Tie as tie
 
 abbrev Inv-loop : tie.InvT-loop
-Inv-loop order units lanes starts finishes deadlines predecessors lefts rights ys numbers dues flags sets height n i₀ i = Unit {0}
+Inv-loop p c s a h n i₀ i = Unit {0}
 
 abbrev μ-loop : tie.MeasureT-loop
-μ-loop order units lanes starts finishes deadlines predecessors lefts rights ys numbers dues flags sets height n i₀ i = n - i
+μ-loop p c s a h n i₀ i = p .tasks - i
 
 pub tasks-spec : {M : Type 1} → statement M
 tasks-spec =
-    tie.close (tie.spec Inv-loop μ-loop (λ c. tt) (λ c κs. search needs) (λ c κs. search needs) (λ c κs. search needs)
-    (λ c κs. search needs) (λ c κs. search needs) (λ c κs. search needs) (λ c. search needs) (λ c. search needs)
+    tie.close (tie.spec Inv-loop μ-loop (λ c. tt) (λ c κs. search needs) (λ c κs. search needs) (λ c. search needs) (λ c. search needs)
     (λ c. tt) (λ c. search needs))

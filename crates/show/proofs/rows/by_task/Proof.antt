@@ -5,10 +5,10 @@ use Rattle.show.proofs.rows.by_task.Statement.{statement}
 use Rattle.show.proofs.rows.by_task.Tie as tie
 
 abbrev Inv-loop : tie.InvT-loop
-Inv-loop lanes bars n found₀ t₀ found t = Unit {0}
+Inv-loop lanes rows n found₀ t₀ found t = Unit {0}
 
 abbrev μ-loop : tie.MeasureT-loop
-μ-loop lanes bars n found₀ t₀ found t = n - t
+μ-loop lanes rows n found₀ t₀ found t = n - t
 
 pub by-task-spec : {M : Type 1} → statement M
 by-task-spec =

@@ -5,13 +5,14 @@ use Rattle.show.proofs.rows.laid.Statement.{statement}
 use Rattle.show.proofs.rows.laid.Tie as tie
 
 abbrev Inv-loop : tie.InvT-loop
-Inv-loop units s flagged numbered tops₀ bars₀ y₀ i₀ tops bars y i = Unit {0}
+Inv-loop units s h tops₀ bars₀ feet₀ y₀ i₀ tops bars feet y i = Unit {0}
 
 abbrev μ-loop : tie.MeasureT-loop
-μ-loop units s flagged numbered tops₀ bars₀ y₀ i₀ tops bars y i = 64 - i
+μ-loop units s h tops₀ bars₀ feet₀ y₀ i₀ tops bars feet y i = 64 - i
 
 pub laid-spec : {M : Type 1} → statement M
 laid-spec =
     tie.close (tie.spec Inv-loop μ-loop (λ c. tt) (λ c κs. search needs) (λ c κs. search needs) (λ c κs. search needs)
-    (λ c κs. search needs) (λ c κs. search needs) (λ c κs. search needs) (λ c κs. search needs) (λ c. search needs)
+    (λ c κs. search needs) (λ c κs. search needs) (λ c κs. search needs) (λ c κs. search needs) (λ c κs. search needs)
+    (λ c κs. search needs) (λ c κs. search needs) (λ c. search needs)
     (λ c. search needs) (λ c. tt) (λ c. search needs))

@@ -23,10 +23,13 @@ abbrev μ-loop : tie.MeasureT-loop
 μ-loop times p c tasks starts₀ finishes₀ free₀ last₀ past₀ response₀ k₀ starts finishes free last past response k = p .tasks - k
 
 -- where the predecessors are known, the turn of the loop, and the function's entry
-abbrev known : tie.After-later2 Inv-loop μ-loop → tie.After-predecessors-of Inv-loop μ-loop
-known c = c .before .before .before .before .before
+abbrev looked : tie.After-later2 Inv-loop μ-loop → tie.After-predecessors-of Inv-loop μ-loop
+looked c = c .before .before .before .before .before .before .before .before
 
-abbrev turn : tie.After-later2 Inv-loop μ-loop → tie.In-loop Inv-loop μ-loop
+abbrev known : tie.After-later3 Inv-loop μ-loop → tie.After-predecessors-of Inv-loop μ-loop
+known c = looked (c .before)
+
+abbrev turn : tie.After-later3 Inv-loop μ-loop → tie.In-loop Inv-loop μ-loop
 turn c = known c .before .before .before .before .before .before .before .before
 
 abbrev start : tie.In-loop Inv-loop μ-loop → tie.Start Inv-loop μ-loop
@@ -53,16 +56,17 @@ in-array c =
     let a = taken (start i) in
     first-in-array _ _ _ _ (c .free-first .ensures) (lt-of-lt-of-le (type-low i) (a .few-types)) (a .few-units _ (type-low i))
 
--- the latest of the three is the start of the position
-start-here : (c : tie.After-later2 Inv-loop μ-loop) (d : ℕ → ℕ)
+-- the latest of all that it waits for is the start of the position
+start-here : (c : tie.After-later3 Inv-loop μ-loop) (d : ℕ → ℕ)
     → let g = start (turn c) .args in Listed (g .t1) (g .times .now) d
-    → c .later2 .result ≡ startsOf (g .t1) (g .t2) d (turn c .before .loop .k)
+    → c .later3 .result ≡ startsOf (g .t1) (g .t2) d (turn c .before .loop .k)
 start-here c d h =
     let i = turn c in
+    let w = c .before .before .before .before .before .before in
     next-start (taken (start i)) d (lasts (start i) d h) (i .before .loop .inv d h) (i .loop-test .taken)
     (known c .before .before .before .free-first .ensures) (known c .predecessors-of .ensures)
-    (c .before .before .before .difference .ensures)
-    (c .before .before .latest-finish .ensures) (c .before .later .ensures) (c .later2 .ensures)
+    (w .before .difference .ensures) (w .latest-finish .ensures) (c .before .before .before .release-of .ensures)
+    (c .before .before .later .ensures) (c .before .later2 .ensures) (c .later3 .ensures)
 
 add-finish : tie.Need-add-finish Inv-loop μ-loop
 add-finish c =
@@ -81,7 +85,7 @@ loop-again c = λ d h.
     reached-more (taken (start i)) d (lasts (start i) d h) (i .before .loop .inv d h) (i .loop-test .taken)
     (known l .before .before .before .free-first .ensures) (known l .predecessors-of .ensures) (start-here l d h)
     (h _ (task-low i))
-    (c .later3 .ensures)
+    (c .later4 .ensures)
 
 returns : tie.Need-returns Inv-loop μ-loop
 returns c = λ d h.
@@ -106,9 +110,9 @@ run-spec =
     (λ c. omega (arith, of-type (c .before .before .before))) (λ c. of-type (c .before .before .before))
     (λ c κs. let i = c .before .before .before .before in let a = taken (start i) in
     (of-type i, (a .some-units _ (type-low i), a .few-units _ (type-low i))))
-    (λ c κs. search needs) (λ c κs. search needs) (λ c κs. search needs) (λ c κs. search needs)
-    (λ c. omega (arith, in-array (c .before .before .before .before .before .before .before)))
-    (λ c. in-array (c .before .before .before .before .before .before .before)) (λ c κs. search needs)
+    (λ c κs. search needs) (λ c κs. search needs) (λ c κs. search needs) (λ c κs. search needs) (λ c κs. search needs)
+    (λ c κs. search needs) (λ c. omega (arith, in-array (looked c .before .before .before))) (λ c. in-array (looked c .before .before .before))
+    (λ c κs. search needs)
     (λ c. omega (arith, low (turn c)))
     (λ c. lt-of-lt-of-le (task-low (turn (c .before))) (start (turn (c .before)) .pre .enough)) add-finish
     (λ c. omega (arith, low (turn (c .before)))) (λ c. low (turn (c .before)))
