@@ -265,7 +265,7 @@ class Plan:
         return Plan(self._plan, reply.constraint)
 
     def start(self):
-        """The state at instant 0, and the set of tasks to begin."""
+        """The state at instant 0, and the set of tasks to begin, which is empty if the first waits for its not-before instant: tick on."""
         reply = _accepted(_library.bench_start(self._plan, self._constraint))
         return State(reply.state), _tasks_of(reply.started)
 
@@ -286,7 +286,8 @@ class State:
         self._state = state
 
     def tick(self, report):
-        """The state one instant on, with the reported tasks finished, and the set of tasks to begin; 12, 13, 14, 16."""
+        """The state one instant on, with the reported tasks finished, and the set of tasks to begin; 12, 13, 14, 16.
+        The set may be empty while nothing runs, if the next task waits for its not-before instant: tick on."""
         reply = _accepted(_library.bench_tick(self._state, _set_of(report)))
         return State(reply.state), _tasks_of(reply.started)
 
