@@ -17,7 +17,7 @@ import pathlib
 from collections import namedtuple
 from ctypes import POINTER, byref, c_bool, c_int64, c_size_t, c_uint8, c_uint32, c_uint64
 
-VERSION = 600
+VERSION = 700
 TASKS = 64
 TIMETABLE_MOST = 1456
 ANSWER_MOST = 1456
@@ -286,7 +286,7 @@ class State:
         self._state = state
 
     def tick(self, report):
-        """The state one instant on, with the reported tasks finished, and the set of tasks to begin; 12, 13, 14, 16.
+        """The state one instant on, with the reported tasks finished, and the set of tasks to begin; 12, 13, 16, 14.
         The set may be empty while nothing runs, if the next task waits for its not-before instant: tick on."""
         reply = _accepted(_library.bench_tick(self._state, _set_of(report)))
         return State(reply.state), _tasks_of(reply.started)

@@ -253,6 +253,8 @@ static void check_ticks(void) {
     HOLDS(numbers[4] == 77 && places[4] == 78 && sets[4] == 79);
     s = both(t.state);
     HOLDS(s.fields.instant == 3 && s.fields.started == 4 && s.fields.finished == 3);
+    t = bench_tick(bench_tick(t.state, 0).state, reports[2]);
+    HOLDS(t.number == BENCH_OVERRUN && t.place == 2 && t.started == 0);
 }
 
 /* Task 1 of plan A not before 4: the run waits for it, a list and a state in which it starts at 3 are refused. */

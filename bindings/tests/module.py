@@ -66,7 +66,7 @@ assert begin == {0} and raises(ValueError, state.tick, {64}) and raises(ValueErr
 assert refusal_of(state.tick, {63, 5}) == (14, 5)
 assert state.tick([0])[1] == state.tick((0, 0))[1] == {1, 2}
 after, begin = state.tick(())
-assert refusal_of(after.tick, ()) == (16, 0) and after.tick({0})[1] == {1, 2}
+assert refusal_of(after.tick, ()) == refusal_of(after.tick, {3}) == (16, 0) and after.tick({0})[1] == {1, 2}
 
 # A replay: what start began, an answer for each tick, and the state after the last.
 replayed = plan.replay([{0}, {4}, {1, 2}])

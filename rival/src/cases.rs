@@ -73,8 +73,24 @@ pub const RELEASED: Case = (0, "start at its instant");
 /// Of runs in which a task waits for its not-before instant.
 pub const WAITS: [Case; 3] = [HELD, IDLE, RELEASED];
 
-/// A report names a task, and the run is idle.
+/// A stranger is a reported task that does not run; an overrun is a task that runs, is not reported
+/// and at the new instant has run its worst.
 pub const IDLE_REPORT: Case = (14, "while nothing runs");
+pub const STRANGER_ALONE: Case = (14, "without an overrun");
+pub const OVERRUN_ALONE: Case = (16, "without a stranger");
+/// The lowest stranger is lower or higher than the place.
+pub const LOWER_STRANGER: Case = (16, "with a lower stranger");
+pub const HIGHER_STRANGER: Case = (16, "with a higher stranger");
+pub const STRANGER_AND_OVERRUNS: Case = (16, "of several with a stranger");
+
+/// Of reports with a stranger, an overrun or both.
+pub const FAULTY_REPORTS: [Case; 6] = [
+    IDLE_REPORT, STRANGER_ALONE, OVERRUN_ALONE, LOWER_STRANGER, HIGHER_STRANGER,
+    STRANGER_AND_OVERRUNS,
+];
+
+/// What no report with both faults gives.
+pub const STRANGER_FIRST: Case = (14, "with an overrun");
 
 /// The bound is the greatest not-before instant, which is not 0, plus the sum of worst times.
 pub const BOUND_IS_SUM: Case = (0, "instant plus sum of times");

@@ -263,18 +263,7 @@ impl Driver {
         let (state, answer) = state.tick(report);
         self.state = state;
         self.reached.note_instant("T", instant, &self.state, &answer);
-        match answer {
-            Ok(started) => {
-                self.reached.note_tick("T", &self.state, self.state.instant);
-                self.reached.note_walk("T", &self.state, self.state.instant, started);
-            }
-            Err(Refusal { number: 12, .. }) => self.reached.note_unsound("T", &self.state),
-            Err(Refusal { number: 14, .. }) => self.reached.note_stranger("T", &self.state),
-            Err(Refusal { number: 16, place }) => {
-                self.reached.note_overrun("T", &self.state, place);
-            }
-            Err(_) => {}
-        }
+        self.reached.note_tick("T", &self.state, instant, report, &answer);
         self.say("T", "tick", answer.err().as_ref(), &[answer.unwrap_or(0)]);
     }
 
@@ -343,14 +332,11 @@ impl Driver {
         let (mut started, mut ticks, mut instant) = (0, Vec::new(), 0);
         if let Ok(replayed) = &answer {
             started = replayed.started;
-            for tick in &replayed.ticks {
+            for (&report, tick) in reports.iter().zip(&replayed.ticks) {
                 let [number, place] = number_and_place(tick.err().as_ref());
                 self.reached.note(TICKS_OF_Z, number);
-                if let Ok(started) = tick {
-                    instant += 1;
-                    self.reached.note_tick(TICKS_OF_Z, &state, instant);
-                    self.reached.note_walk(TICKS_OF_Z, &state, instant, *started);
-                }
+                self.reached.note_tick(TICKS_OF_Z, &state, instant, report, tick);
+                instant += u32::from(tick.is_ok());
                 ticks.extend([number, place, tick.unwrap_or(0)]);
             }
         }

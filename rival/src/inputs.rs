@@ -3,6 +3,7 @@ use crate::check::check;
 use crate::driver::LONGEST_LIST;
 use crate::edges::{self, SIXTEEN_BITS};
 use crate::limits::*;
+use crate::moment::Moment;
 use crate::plan::*;
 use crate::random::Random;
 use crate::simulate::{simulate, worst_times};
@@ -141,25 +142,39 @@ pub fn legal_report(random: &mut Random, state: &State) -> u64 {
 
 /// The running tasks that at the new instant have run their worst. Only for sound states.
 pub fn due_report(state: &State) -> u64 {
-    let chosen = state.constraint.chosen();
-    let ran = |t: usize| state.instant + 1 - state.starts[t];
-    let due = |&t: &usize| ran(t) >= state.plan.worst[pair(t, chosen[t])];
-    members(state.running()).filter(due).fold(0, |set, t| set | 1 << t)
+    Moment::of(state, state.instant).due()
 }
 
 /// A report that is legal, or has a stranger, lacks a task, has all that run, has the tasks that
-/// only start at the new instant, or is any set.
+/// only start at the new instant, has a stranger and lacks what is due, or is any set.
 pub fn some_report(random: &mut Random, state: &State) -> u64 {
     let legal = legal_report(random, state);
-    match random.below(15) {
+    match random.below(16) {
         0 => legal | 1 << random.below(TASKS as u64),
         1 => legal & random.number(),
         2 => random.number(),
         3 if state.sound() => state.running(),
         4 => legal | state.clone().tick(legal).1.unwrap_or(0),
         5 => 0,
+        6 if state.sound() && due_report(state) != 0 => both_faults(random, state),
         _ => legal,
     }
+}
+
+/// Lacks a task that is due, perhaps more, and names one that does not run and is lower or higher;
+/// if there is none, it names none. Only for sound states in which a task is due.
+fn both_faults(random: &mut Random, state: &State) -> u64 {
+    let running = state.running();
+    let overrun = one_of(random, due_report(state));
+    let lower = overrun - 1;
+    let side = random.pick(&[lower, !lower]);
+    running & !overrun & random.number() | one_of(random, side & !running)
+}
+
+/// One task of a set, as a set; the empty set has none.
+fn one_of(random: &mut Random, set: u64) -> u64 {
+    let tasks: Vec<usize> = members(set).collect();
+    if tasks.is_empty() { 0 } else { 1 << random.pick(&tasks) }
 }
 
 /// A list of reports: whole runs, lists with faults in between, any sets, quiet ticks, none.

@@ -83,6 +83,7 @@ impl Journal {
         self.start[task].map_or(0, |s| self.instant + 1 - s)
     }
 
+    /// Refusals 13, 16 and 14, in the order of a tick (document 02, 7).
     fn refusal(&self, report: u64) -> Option<Refusal> {
         let n = self.plan.tasks as usize;
         if self.tasks(Progress::Finished).len() == n {
@@ -92,11 +93,11 @@ impl Journal {
         let reported = |t: usize| report >> t & 1 == 1;
         let worst = |t: usize| self.plan.worst[pair(t, self.kind(t))];
         let say = |number, t: usize| Some(Refusal { number, place: t as u64 });
-        if let Some(t) = (0..TASKS).find(|&t| reported(t) && !running(t)) {
-            return say(14, t);
-        }
         let over = |t: &usize| running(*t) && !reported(*t) && self.ran(*t) >= worst(*t);
-        (0..n).find(over).and_then(|t| say(16, t))
+        if let Some(t) = (0..n).find(over) {
+            return say(16, t);
+        }
+        (0..TASKS).find(|&t| reported(t) && !running(t)).and_then(|t| say(14, t))
     }
 
     /// Notes a report and answers the tasks started, or the refusal.

@@ -82,6 +82,12 @@ pub fn pair(task: usize, kind: usize) -> usize {
     task * TYPES + kind
 }
 
+/// Best and worst of a task's chosen type. Only for accepted plans and constraints.
+pub fn pair_of(plan: &Plan, constraint: &Constraint, task: usize) -> (u32, u32) {
+    let at = pair(task, constraint.chosen()[task]);
+    (plan.best[at], plan.worst[at])
+}
+
 /// The set of the tasks 0 to n - 1.
 pub fn first_tasks(n: u64) -> u64 {
     if n >= u64::BITS.into() { u64::MAX } else { (1 << n) - 1 }

@@ -10,6 +10,7 @@ use crate::margins::{margins, with_deadline, Margins};
 use crate::plan::*;
 use crate::reader::read;
 use crate::releases::{cases_of_bound, cases_of_run, cases_of_unsound, cases_of_walk};
+use crate::reports::{cases_of_refused, cases_of_taken};
 use crate::run::Times;
 use crate::schedule::Record;
 use crate::simulate::{bound, worst_times};
@@ -44,7 +45,7 @@ const ASKED_OF_LINES: [Asked; 4] = [
 ];
 
 /// Of sessions, each by itself.
-const ASKED: [Asked; 36] = [
+const ASKED: [Asked; 37] = [
     ("B", &[], &[ADOPTED, BOUND_BELOW, BOUND_EQUAL]),
     ("B", &[], &[BOUND_IS_SUM]),
     ("B", &[], &WAITS),
@@ -72,7 +73,7 @@ const ASKED: [Asked; 36] = [
     ("T", &[], &EARLY),
     ("T", &[], &WAITS),
     ("T", &[], &START_EDGES),
-    ("T", &[], &[IDLE_REPORT]),
+    ("T", &[], &FAULTY_REPORTS),
     ("T", &[], INSTANTS.as_flattened()),
     ("W", &[], &TIMETABLES),
     ("Y", &[0, 8, 9, 10, 11, 17, 18, 19], &TIMES),
@@ -81,6 +82,7 @@ const ASKED: [Asked; 36] = [
     ("Z", &[0, 8, 9, 10, 11], &[]),
     (TICKS_OF_Z, &[0, 13, 14, 16], &[EARLY_REPORT]),
     (TICKS_OF_Z, &[], &WAITS),
+    (TICKS_OF_Z, &[], &FAULTY_REPORTS),
 ];
 
 /// Of texts that a program is given.
@@ -98,9 +100,9 @@ const NEVER_GIVEN: [(&str, &[Case]); 8] = [
     ("K", &NEVER),
     ("M", &[IDLE_AFTER_ALL]),
     ("S", &[IDLE_AFTER_ALL]),
-    ("T", &[IDLE_AFTER_ALL]),
+    ("T", &[IDLE_AFTER_ALL, STRANGER_FIRST]),
     (TEXT, &[BOUND_ABOVE_SUM, IDLE_AFTER_ALL]),
-    (TICKS_OF_Z, &[IDLE_AFTER_ALL]),
+    (TICKS_OF_Z, &[IDLE_AFTER_ALL, STRANGER_FIRST]),
 ];
 
 /// By the letter of the command, then by case. A case without words is all answers with its number.
@@ -176,7 +178,7 @@ impl Reached {
     }
 
     /// Notes the cases of a state that is refused with 12.
-    pub fn note_unsound(&mut self, command: &'static str, state: &State) {
+    fn note_unsound(&mut self, command: &'static str, state: &State) {
         let sound = |plan: &Plan| State { plan: plan.clone(), ..state.clone() }.sound();
         let words = only_fault(&state.plan, sound);
         self.add_cases(command, words.map(|words| (12, words)));
@@ -309,25 +311,26 @@ impl Reached {
         self.add_cases(command, cases_of_walk(state, instant, started));
     }
 
-    /// Notes the case of a tick that is refused with 14.
-    pub fn note_stranger(&mut self, command: &'static str, state: &State) {
-        self.add_cases(command, (state.running() == 0).then_some(IDLE_REPORT));
-    }
-
-    /// Notes the cases of an accepted tick to this instant, from the state after it or a later one.
-    pub fn note_tick(&mut self, command: &'static str, state: &State, instant: u32) {
-        let State { plan, constraint, starts, finishes, .. } = state;
-        let reported = || members(state.finished).filter(|&t| finishes[t] == instant);
-        let early = |t: usize| instant - starts[t] < pair_of(plan, constraint, t).0;
-        self.add_cases(command, reported().any(early).then_some(EARLY_REPORT));
-        let longest = |t: usize| instant - starts[t] == LONGEST_TIME;
-        self.add_cases(command, reported().any(longest).then_some(LONGEST_REPORT));
-    }
-
-    /// Notes the case of a tick that is refused with 16 for this task.
-    pub fn note_overrun(&mut self, command: &'static str, state: &State, task: u64) {
-        let (_, worst) = pair_of(&state.plan, &state.constraint, task as usize);
-        self.add_cases(command, (worst == LONGEST_TIME).then_some(LONGEST_OVERRUN));
+    /// Notes the cases of a tick that answers a report at this instant so, from the state after it
+    /// or a later one.
+    pub fn note_tick(
+        &mut self,
+        command: &'static str,
+        state: &State,
+        instant: u32,
+        report: u64,
+        answer: &Result<u64, Refusal>,
+    ) {
+        match answer {
+            Ok(started) => {
+                self.add_cases(command, cases_of_taken(state, instant + 1, report));
+                self.note_walk(command, state, instant + 1, *started);
+            }
+            Err(Refusal { number: 12, .. }) => self.note_unsound(command, state),
+            Err(refusal) => {
+                self.add_cases(command, cases_of_refused(state, instant, report, refusal));
+            }
+        }
     }
 
     fn add_cases(&mut self, command: &'static str, cases: impl IntoIterator<Item = Case>) {
@@ -466,12 +469,6 @@ fn lower(numbers: &mut [u32], greatest: u32) {
 fn drop_absent(numbers: &mut [u32], tasks: u64, greatest: u32) {
     let absent = numbers.iter_mut().skip(tasks as usize);
     absent.filter(|n| **n <= greatest).for_each(|n| *n = 0);
-}
-
-/// Best and worst of a task's chosen type. Only for accepted plans and constraints.
-fn pair_of(plan: &Plan, constraint: &Constraint, task: usize) -> (u32, u32) {
-    let at = pair(task, constraint.chosen()[task]);
-    (plan.best[at], plan.worst[at])
 }
 
 fn name((number, words): Case) -> String {

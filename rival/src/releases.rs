@@ -2,58 +2,29 @@
 use crate::cases::*;
 use crate::check::check;
 use crate::edges;
+use crate::moment::Moment;
 use crate::plan::*;
 use crate::run::Times;
 use crate::simulate::worst_times;
 use crate::state::State;
 
-/// How far a run is after the walk of an instant.
-struct Moment<'a> {
-    plan: &'a Plan,
-    constraint: &'a Constraint,
-    instant: u32,
-    /// So many of the order.
-    started: usize,
-    finished: u64,
-}
-
 impl Moment<'_> {
-    /// At the state's instant or an earlier one.
-    fn of(state: &State, instant: u32) -> Moment<'_> {
-        let State { plan, constraint, starts, finishes, .. } = state;
-        let begun = |&&t: &&u64| starts[t as usize] <= instant;
-        let ended = |&t: &usize| finishes[t] <= instant;
-        Moment {
-            plan,
-            constraint,
-            instant,
-            started: constraint.task[..state.started as usize].iter().filter(begun).count(),
-            finished: members(state.finished).filter(ended).fold(0, |set, t| set | 1 << t),
-        }
-    }
-
-    /// The types of the running tasks.
-    fn held_types(&self) -> impl Iterator<Item = u64> + '_ {
-        let Constraint { task, kind, .. } = self.constraint;
-        let running = (0..self.started).filter(|&p| self.finished >> task[p] & 1 == 0);
-        running.map(|p| kind[p])
-    }
-
     /// The next task waits for its not-before instant and for nothing else.
     fn is_held_by_an_instant(&self) -> bool {
         let Moment { plan, constraint, started, .. } = *self;
         if started == plan.tasks as usize {
             return false;
         }
-        let (task, kind) = (constraint.task[started] as usize, constraint.kind[started]);
-        let holders = self.held_types().filter(|&y| y == kind).count();
+        let (task, kind) = (constraint.task[started] as usize, constraint.kind[started] as usize);
+        let chosen = constraint.chosen();
+        let holders = members(self.running()).filter(|&t| chosen[t] == kind).count();
         let ready = plan.predecessors[task] & !self.finished == 0;
-        ready && holders < plan.units[kind as usize] as usize && self.instant < plan.releases[task]
+        ready && holders < plan.units[kind] as usize && self.instant < plan.releases[task]
     }
 
     /// Nothing runs, and the run is not over.
     fn is_idle(&self) -> bool {
-        self.finished != first_tasks(self.plan.tasks) && self.held_types().next().is_none()
+        self.finished != first_tasks(self.plan.tasks) && self.running() == 0
     }
 
     fn cases(&self) -> Vec<Case> {

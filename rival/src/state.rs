@@ -1,4 +1,4 @@
-//! The live run: start, soundness (12), tick (13, 14, 16) and lists of ticks.
+//! The live run: start, soundness (12), tick (13, 16, 14) and lists of ticks.
 use crate::check::check;
 use crate::limits::*;
 use crate::plan::*;
@@ -104,7 +104,7 @@ impl State {
         members(running).all(in_time) && (0..TYPES).all(|y| users(y) <= self.plan.units[y] as usize)
     }
 
-    /// Refusals 12, 13, 14 and 16, in this order.
+    /// Refusals 12, 13, 16 and 14, in this order (document 02, 7).
     fn refusal(&self, report: u64) -> Result<(), Refusal> {
         if !self.sound() {
             return refuse(12, 0);
@@ -115,11 +115,11 @@ impl State {
         let (running, chosen) = (self.running(), self.constraint.chosen());
         let ran = |t: usize| self.instant + 1 - self.starts[t];
         let overrun = |t: &usize| ran(*t) >= self.plan.worst[pair(*t, chosen[*t])];
-        if let Some(t) = members(report & !running).next() {
-            return refuse(14, t as u64);
-        }
         if let Some(t) = members(running & !report).find(overrun) {
             return refuse(16, t as u64);
+        }
+        if let Some(t) = members(report & !running).next() {
+            return refuse(14, t as u64);
         }
         Ok(())
     }

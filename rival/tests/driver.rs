@@ -62,6 +62,7 @@ fn lists_of_reports() {
     assert_eq!(answer("Z\t0\t0"), "replay\t0\t0\t1\t0\t0\t0\t16\t0\t0");
     assert_eq!(answer("Z\t1\t4"), "replay\t0\t0\t1\t0\t0\t6\t0\t0\t0");
     assert_eq!(answer("Z\t1\t8"), "replay\t0\t0\t1\t0\t0\t6\t14\t3\t0");
+    assert_eq!(answer("Z\t0\t8"), "replay\t0\t0\t1\t0\t0\t0\t16\t0\t0");
 }
 
 /// The run of best times: tasks 0 at 1, 1 at 2, 2 and 3 at 3, 4 at 4. Refused reports alter nothing.

@@ -167,6 +167,7 @@ fn compare(driver: &Driver, command: &[u8], met: &mut Met) {
             let plain = driver.state.clone().tick(report);
             assert_eq!(plain, fast::tick(driver.state.clone(), report));
             met.note(&plain.1);
+            met.0.note_tick("T", &plain.0, driver.state.instant, report, &plain.1);
         }
         _ => {}
     }
@@ -185,6 +186,7 @@ fn start_simulate_margins_and_tick() {
         }
     }
     met.all(&[0, 8, 12, 13, 14, 16, 17, 18]);
+    met.cases("T", &cases::FAULTY_REPORTS);
 }
 
 /// As if all that runs had started as much later as the instant is.
@@ -228,11 +230,7 @@ fn tick_on_altered_states() {
             assert_eq!(plain, fast::tick(altered, report));
             met.note(&plain.1);
             met.0.note_instant("", instant, &plain.0, &plain.1);
-            match plain.1 {
-                Ok(started) => met.0.note_walk("", &plain.0, plain.0.instant, started),
-                Err(Refusal { number: 12, .. }) => met.0.note_unsound("", &plain.0),
-                Err(_) => {}
-            }
+            met.0.note_tick("", &plain.0, instant, report, &plain.1);
             (state, _) = state.tick(report);
         }
     }
@@ -240,6 +238,7 @@ fn tick_on_altered_states() {
     met.cases("", cases::INSTANTS.as_flattened());
     met.cases("", &cases::WAITS);
     met.cases("", &cases::EARLY);
+    met.cases("", &cases::FAULTY_REPORTS);
 }
 
 #[test]
@@ -262,11 +261,15 @@ fn replay() {
             assert!((0..n).all(|i| fast(i) == (99, 99, 99)));
             continue;
         };
+        let mut instant = 0;
         for (i, answer) in plain.ticks.into_iter().enumerate() {
             met.note(&answer);
+            met.0.note_tick("", &state, instant, reports[i], &answer);
+            instant += u32::from(answer.is_ok());
             let refusal = answer.err().unwrap_or(Refusal { number: 0, place: 0 });
             assert_eq!(fast(i), (refusal.number, refusal.place, answer.unwrap_or(0)));
         }
     }
     met.all(&[0, 13, 14, 16]);
+    met.cases("", &cases::FAULTY_REPORTS);
 }

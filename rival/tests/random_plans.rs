@@ -1,4 +1,5 @@
 //! What must agree on random plans: the two simulations, the journal and the live run.
+use rival::cases::FAULTY_REPORTS;
 use rival::edges::SIXTEEN_BITS;
 use rival::journal::{Journal, Progress};
 use rival::inputs::{allowed_times, some_report};
@@ -6,6 +7,7 @@ use rival::limits::*;
 use rival::margins::margins;
 use rival::plan::*;
 use rival::random::Random;
+use rival::reached::Reached;
 use rival::releases::greatest;
 use rival::run::Times;
 use rival::simulate::{bound, simulate, worst_times};
@@ -95,20 +97,23 @@ fn same_notes(state: &State, journal: &Journal) {
 
 #[test]
 fn ticks_are_the_journals() {
-    let mut random = Random::new(2);
+    let (mut random, mut reached) = (Random::new(2), Reached::default());
     for _ in 0..300 {
         let (plan, constraint) = sound_plan(&mut random);
         let (mut state, answer) = start(&plan, &constraint);
         let (mut journal, opened) = Journal::open(&plan, &constraint);
         assert_eq!(answer, Ok(opened));
         for _ in 0..100 {
-            let report = some_report(&mut random, &state);
+            let (report, instant) = (some_report(&mut random, &state), journal.instant);
             let (next, answer) = state.tick(report);
             state = next;
             assert_eq!(answer, journal.report(report));
             same_notes(&state, &journal);
+            reached.note_tick("journal", &state, instant, report, &answer);
         }
     }
+    reached.print_commands();
+    assert!(FAULTY_REPORTS.into_iter().all(|case| reached.times_of_case("journal", case) > 0));
 }
 
 /// The book of a run in which every task takes its worst time: what is left until each deadline,

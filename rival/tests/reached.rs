@@ -159,8 +159,8 @@ fn cases_that_are_asked() {
         assert!(faults.contains(&line(case, TEXT)) && texts.contains(&line(case, TEXT)));
     }
     let unsound = UNSOUND_PLANS.iter().chain(&EARLY);
-    let of_ticks = unsound.chain(&[LONGEST_REPORT, LONGEST_OVERRUN, IDLE_REPORT]);
-    for case in INSTANTS.as_flattened().iter().chain(of_ticks) {
+    let of_ticks = unsound.chain(&[LONGEST_REPORT, LONGEST_OVERRUN]);
+    for case in INSTANTS.as_flattened().iter().chain(of_ticks).chain(&FAULTY_REPORTS) {
         assert!(faults.contains(&line(case, "T")));
     }
     for command in ["M", "Y"] {
@@ -173,6 +173,7 @@ fn cases_that_are_asked() {
     for command in ["D", "K", "S"] {
         assert!(FAULTS.map(|case| line(&case, command)).iter().all(|line| faults.contains(line)));
     }
+    assert!(FAULTY_REPORTS.map(|case| line(&case, TICKS_OF_Z)).iter().all(|line| faults.contains(line)));
     for command in ["B", "M", "T", TICKS_OF_Z] {
         assert!(WAITS.map(|case| line(&case, command)).iter().all(|line| faults.contains(line)));
     }

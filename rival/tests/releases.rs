@@ -456,7 +456,7 @@ fn cases_of_ticks() {
         let of_t = once(lines, &[&["S"], &commands[..]].concat(), "T", &all);
         let replay = format!("Z\t{}", reports.join("\t"));
         let of_z = once(lines, &[&replay], TICKS_OF_Z, &all);
-        assert!(of_t.iter().filter(|case| **case != IDLE_REPORT).eq(&of_z));
+        assert_eq!(of_t, of_z);
         of_t
     };
     assert_eq!(ticks("", &["1", "2"]), []);

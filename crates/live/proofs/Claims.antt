@@ -43,8 +43,8 @@ plain-refusal : (p : Plan) (c : Constraint) (n : Notes) (report : ℕ) → Plain
 unfolding refusal
 plain-refusal p c n report =
     plain-cond (over p n) 13 0 _ (omega arith)
-    (plain-unless 14 width (idle n report) _ (omega arith)
-    (plain-unless 16 width (overdue p c n report) _ (omega arith) (λ e. refl)))
+    (plain-unless 16 width (overdue p c n report) _ (omega arith)
+    (plain-unless 14 width (idle n report) _ (omega arith) (λ e. refl)))
 
 -- notes that stay start nothing
 nothing-new : (n : Notes) → newlyStarted n n ≡ 0

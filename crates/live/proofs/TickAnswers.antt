@@ -6,7 +6,7 @@ use Prim.Native.Nat.{ℕ, _+_, _^_, _≤_, _<_}
 use native.Mathlib.Nat.{lt-of-le-of-lt}
 use native.Mathlib.Omega.{arith}
 use borrow.Author.Tests.{ne-eqb, eq-eqb}
-use lib.Bits.{and-le-l}
+use lib.Bits.{bitAnd, and-le-l}
 use Rattle.task_set.specs.Bounded.{all, tabulate}
 use Rattle.task_set.specs.Sets.{width, has, without}
 use Rattle.task_set.proofs.Truth.{by-test}
@@ -48,7 +48,7 @@ module _ (s : State) (report : ℕ) where
       few : s .started ≤ s .plan .tasks
       few = sound-few s sound
 
-      -- 13, 14 and 16, by the sets that the tick computes
+      -- 13, 16 and 14, by the sets that the tick computes
       pub verdict-by : {m : Marks} {done : Bool} → m ≡ marksIn s → done ≡ all (s .plan .tasks) (has (s .finished))
           → verdictBy m done (s .finished) report ≡ tickVerdict s report
       unfolding verdictBy refusal
@@ -56,9 +56,9 @@ module _ (s : State) (report : ℕ) where
           let due = lt-of-le-of-lt (and-le-l _ _) (tasks-small _ _ _) in
           rw (e, f, ← over-notes s)
           (ap (cond (over (s .plan) (notesOf s)) (refused 13 0))
-          (ap (unlessEmpty 14 (without report (runningOf s)))
-          (sym (unless-set 16 _ noRefusal (without-small width _ report due) (overdue-set s a few report)))
-          ∙ sym (unless-set 14 _ _ (without-small width report _ small) (idle-set s report)))
+          (ap (unlessEmpty 16 (without (bitAnd (marksIn s .due) (runningOf s)) report))
+          (sym (unless-set 14 _ noRefusal (without-small width report _ small) (idle-set s report)))
+          ∙ sym (unless-set 16 _ _ (without-small width _ report due) (overdue-set s a few report)))
           ∙ sym sound-verdict)
 
 -- ---- what a tick is judged to be

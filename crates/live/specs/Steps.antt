@@ -82,13 +82,13 @@ soundBy units users releases starts finishes m over finished instant =
 abbrev pub unlessEmpty : ℕ → ℕ → Verdict → Verdict
 unlessEmpty number faulty rest = cond (not (eqb faulty 0)) (refused number (lowest faulty)) rest
 
--- 13, 14 and 16, by sets
+-- 13, 16 and 14, by sets
 unfoldable pub verdictBy : Marks → Bool → ℕ → ℕ → Verdict
 verdictBy m over finished report =
     let running = without (m .started) finished in
     cond over (refused 13 0)
-    (unlessEmpty 14 (without report running)
     (unlessEmpty 16 (without (bitAnd (m .due) running) report)
+    (unlessEmpty 14 (without report running)
     noRefusal))
 
 -- a state that is handed over in parts

@@ -26,7 +26,7 @@ stayed v s = record { number = v .number; place = v .place; started = 0; state =
 unfoldable pub started : Plan → Constraint → Ticked
 started p c = cond (eqb (verdict p c .number) 0) (moved p c blank (opening p c)) (stayed (verdict p c) noState)
 
--- 12, "place 0: the state is not sound"; then 13, 14 and 16 on the notes that the state stands for
+-- 12, "place 0: the state is not sound"; then 13, 16 and 14 on the notes that the state stands for
 unfoldable pub tickVerdict : State → ℕ → Verdict
 tickVerdict s report =
     firstRefusal (cond (isSound s) noRefusal (refused 12 0)) (refusal (s .plan) (s .constraint) (notesOf s) report)

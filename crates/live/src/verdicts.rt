@@ -1,4 +1,4 @@
-// What a tick finds: a refusal (12, 13, 14 and 16, in this order), or what the walk needs to go on.
+// What a tick finds: a refusal (12, 13, 16 and 14, in this order), or what the walk needs to go on.
 ghost use mathlib.Core.Path.{_≡_};
 ghost use mathlib.Core.Bool.{cond};
 ghost use Rattle.plan.specs.Refusals.{refused as refusedBy};
@@ -43,7 +43,7 @@ fn unless_empty(number: u32, faulty: u64, rest: Verdict) -> Verdict
     unless(faulty != 0, number, place, rest)
 }
 
-// 13, 14 and 16, of a sound state.
+// 13, 16 and 14, of a sound state.
 fn report_verdict(m: Marks, over: bool, finished: u64, report: u64) -> Verdict
     ensures { λ r. ⌜ r ≡ verdictBy m over finished report ⌝ }
 {
@@ -51,9 +51,9 @@ fn report_verdict(m: Marks, over: bool, finished: u64, report: u64) -> Verdict
     let idle = task_set::difference(report, running);
     let overdue = task_set::difference(m.due & running, report);
     let none = refused(0, 0);
-    let from_16 = unless_empty(16, overdue, none);
-    let from_14 = unless_empty(14, idle, from_16);
-    unless(over, 13, 0, from_14)
+    let from_14 = unless_empty(14, idle, none);
+    let from_16 = unless_empty(16, overdue, from_14);
+    unless(over, 13, 0, from_16)
 }
 
 fn unsound() -> Judged

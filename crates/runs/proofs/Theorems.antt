@@ -1,24 +1,30 @@
 -- The theorems about runs, each stated once, of tasks of a plan and a constraint that the check takes. Open this file first.
 -- Assumes nothing.
-use mathlib.Core.Path.{_≡_}
-use mathlib.Core.Bool.{true, false, cond}
+use mathlib.Core.Path.{_≡_, refl, _∙_}
+use mathlib.Core.Bool.{Bool, true, false, cond, _&&_, not}
 use mathlib.Core.List.{List}
 use mathlib.Core.Option.{none, some}
 use Prim.Native.Nat.{ℕ, zero, suc, _+_, _-_, _≤_, _<_}
 use native.Mathlib.Omega.{arith}
-use lib.Dec.{leb}
+use borrow.Author.Tests.{not-true}
+use lib.Dec.{eqb, leb}
 use lib.ListN.{getD}
+use Rattle.task_set.specs.Bounded.{any, first}
+use Rattle.task_set.specs.Sets.{width, has}
+use Rattle.task_set.proofs.Truth.{by-test, and-left, and-right}
+use Rattle.task_set.proofs.Search.{first-any}
 use Rattle.plan.specs.declared.Plan.{Plan}
 use Rattle.plan.specs.declared.Constraint.{Constraint}
+use Rattle.plan.specs.declared.Verdict.{Verdict}
 use Rattle.plan.specs.Rules.{releaseOf}
-use Rattle.plan.specs.Refusals.{verdict}
+use Rattle.plan.specs.Refusals.{refused, noRefusal, unlessAt, verdict}
 use Rattle.plan.proofs.Accepted.{Accepted, accepted}
 use Rattle.dispatch_theory.specs.Sums.{sum}
 use Rattle.dispatch_theory.proofs.Greedy.{Greedy}
 use Rattle.dispatch_theory.proofs.Rules.{ruleGate}
-use Rattle.runs.specs.Running.{entries, worst, Allowed, hasStarted, isRunning, busy, dispatch, advance, step, blank, opening, timeUp, timed, over, greatestRelease, horizon, response, bound}
+use Rattle.runs.specs.Running.{Notes, entries, worst, Allowed, hasStarted, isRunning, busy, dispatch, advance, step, blank, opening, timeUp, timed, over, greatestRelease, horizon, response, bound}
 use Rattle.runs.specs.Progress.{stage, asFar}
-use Rattle.runs.specs.Journal.{journal, answers, acceptedCount, takenTime}
+use Rattle.runs.specs.Journal.{idle, overdue, refusal, hear, journal, answers, acceptedCount, takenTime}
 use Rattle.runs.proofs.Positions.{taskAt, allowed-lasts, worst-lasts}
 use Rattle.runs.proofs.Orders.{Lasting, orderOf, durations, startsOf, greedy}
 use Rattle.runs.proofs.Closed.{start-finish, start-not-before, timed-start}
@@ -123,3 +129,47 @@ module _ (p : Plan) (c : Constraint) (ok : verdict p c .number ≡ 0) where
     -- and one with that many has ended the run
     pub last : acceptedCount (answers p c reports) ≡ bound p c → over p (journal p c reports) ≡ true
     last e = listed.over-by-bound a (journal p c reports) (listed.reached a reports) (omega (arith, journal-instant p c reports))
+
+-- ---- one report, of any plan and on any notes: what "the order at a tick is 12, 13, 16, 14" changed (document 02, 7)
+
+module _ (p : Plan) (c : Constraint) (n : Notes) (report : ℕ) where
+  -- the order before it: 13, 14, 16 (document 01, "When an operation says no", Tick)
+  abbrev pub strangerFirst : Verdict
+  strangerFirst =
+      cond (over p n) (refused 13 0)
+      (unlessAt 14 width (idle n report)
+      (unlessAt 16 width (overdue p c n report)
+      noRefusal))
+
+  -- "A report can name a task that is not running while another task overruns"; where the run is over, 13 comes first
+  abbrev pub bothFaults : Bool
+  bothFaults = not (over p n) && (any width (idle n report) && any width (overdue p c n report))
+
+  -- reports with both faults "now give 16, with the overrunning task as place"; every other report gets the answer that the order
+  -- before gave it
+  pub hung-first : refusal p c n report ≡ cond bothFaults (refused 16 (first width (overdue p c n report))) strangerFirst
+  unfolding refusal unlessAt
+  hung-first =
+      rw (first-any width (idle n report), first-any width (overdue p c n report))
+      (tried (over p n) (any width (idle n report)) (any width (overdue p c n report)) _ _ _)
+    where
+      tried : (ended stranger late : Bool) (r13 r14 r16 : Verdict)
+          → cond ended r13 (cond late r16 (cond stranger r14 noRefusal))
+          ≡ cond (not ended && (stranger && late)) r16 (cond ended r13 (cond stranger r14 (cond late r16 noRefusal)))
+      tried true stranger late r13 r14 r16 = refl
+      tried false true true r13 r14 r16 = refl
+      tried false true false r13 r14 r16 = refl
+      tried false false late r13 r14 r16 = refl
+
+  -- "reports with both faults gave 14"
+  pub gave-fourteen : bothFaults ≡ true → strangerFirst ≡ refused 14 (first width (idle n report))
+  unfolding unlessAt
+  gave-fourteen e =
+      let goes-on = not-true (over p n) (and-left _ _ e) in
+      let stranger = first-any width (idle n report) ∙ and-left _ _ (and-right (not (over p n)) _ e) in
+      rw (goes-on, stranger) refl
+
+  -- both orders accept the same reports: the notes after a report are those that the order before left
+  pub heard-as-before : hear p c n report ≡ cond (eqb (strangerFirst .number) 0) (step p c (has report) n) n
+  unfolding hear
+  heard-as-before = rw hung-first (by-test bothFaults (λ e. rw (e, gave-fourteen e) refl) (λ e. rw e refl))

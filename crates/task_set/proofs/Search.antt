@@ -8,8 +8,9 @@ use native.Mathlib.Omega.{arith}
 use borrow.Author.Count.{below-more}
 use borrow.Author.Tests.{ltb-true, ltb-false}
 use lib.Dec.{ltb}
-use Rattle.task_set.specs.Bounded.{first}
-use Rattle.task_set.proofs.Truth.{clash, by-test}
+use Rattle.task_set.specs.Bounded.{any, first}
+use Rattle.task_set.proofs.Truth.{clash, by-test, same}
+use Rattle.task_set.proofs.Bounded.{any-intro, any-elim}
 
 -- a search over the numbers below n that has come to i: none before i passes
 pub record Searched (n : ℕ) (p : ℕ → Bool) (i : ℕ) : Type 0 where
@@ -101,6 +102,13 @@ first-absent n p h = search-ended (record { within = le-refl n; before = h }) (l
 -- nothing passes below the bound
 pub first-none : (n : ℕ) (p : ℕ → Bool) → n ≤ first n p → (i : ℕ) → i < n → p i ≡ false
 first-none n p l i m = first-is n p .searched .before i (lt-of-lt-of-le m l)
+
+-- a search ends below its bound exactly if some number passes
+pub first-any : (n : ℕ) (p : ℕ → Bool) → ltb (first n p) n ≡ any n p
+first-any n p =
+    same _ _ (λ e. let l = ltb-true _ _ e in any-intro n p (first n p) l (first-is n p .passes l))
+    (λ e. let r = any-elim n p e in
+    by-test (ltb (first n p) n) (λ f. f) (λ f. absurd (clash (r .2) (first-none n p (ltb-false _ _ f) (r .0) (r .1)))))
 
 -- a search that would pass at its bound ends at a number that passes
 pub first-passes : {n : ℕ} {p : ℕ → Bool} {r : ℕ} → First n p r → p n ≡ true → p r ≡ true

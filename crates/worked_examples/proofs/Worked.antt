@@ -23,7 +23,7 @@ unfolding all any count first tabulate has insert setOf timeOf predecessorsOf in
     tightest noSlacks someSlacks slacksIn slacksOf column scheduled greatestFinish mistimed holds hasty early crowded unmeetable judged before placeOf recordAt inPlace constraintBy adopted times planWith planOne planLong planDue planFrom planA planWarm fiveEntries orderA orderB run
     check simulate listed ticksOn ticks finishes marginsOf margins lasting due from reached adoptOn adopt adoptFully limitTable releaseTable scheduleTable marginTable table
 worked =
-    (refl, (refl, (refl, (refl, (refl, (refl, (refl, (refl, (refl, (refl, (refl, (refl, (refl, (refl, (refl, margin-rows)))))))))))))))
+    (refl, (refl, (refl, (refl, (refl, (refl, (refl, (refl, (refl, (refl, (refl, (refl, (refl, (refl, (refl, (refl, margin-rows))))))))))))))))
   where
     limit-rows : Holds limitTable
     limit-rows = (refl, (refl, (refl, (refl, tt))))

@@ -192,6 +192,10 @@ table =
     ∷ row (ticks (0 ∷ 0 ∷ [])) (0 ∷ 0 ∷ 1 ∷ 0 ∷ 0 ∷ 0 ∷ 16 ∷ 0 ∷ 0 ∷ [])
     ∷ row (ticks (1 ∷ 4 ∷ []) ++ finishes (1 ∷ 4 ∷ [])) (0 ∷ 0 ∷ 1 ∷ 0 ∷ 0 ∷ 6 ∷ 0 ∷ 0 ∷ 0 ∷ 1 ∷ 0 ∷ 2 ∷ 0 ∷ 0 ∷ [])
     ∷ row (ticks (1 ∷ 8 ∷ [])) (0 ∷ 0 ∷ 1 ∷ 0 ∷ 0 ∷ 6 ∷ 14 ∷ 3 ∷ 0 ∷ [])
+    -- both faults (document 02, 7): at instant 5 tasks 2 and 3 have run their worst times. A report of task 0, which has finished, or of
+    -- task 4, which has not begun, is 16 at 2; one of 2 and 4 is 16 at 3; one of 2, 3 and 4 is 14 at 4; one of 2 and 3 is taken, and 4 begins
+    ∷ row (ticks (1 ∷ 2 ∷ 0 ∷ 0 ∷ 1 ∷ 16 ∷ 20 ∷ 28 ∷ 12 ∷ []))
+    (0 ∷ 0 ∷ 1 ∷ 0 ∷ 0 ∷ 6 ∷ 0 ∷ 0 ∷ 8 ∷ 0 ∷ 0 ∷ 0 ∷ 0 ∷ 0 ∷ 0 ∷ 16 ∷ 2 ∷ 0 ∷ 16 ∷ 2 ∷ 0 ∷ 16 ∷ 3 ∷ 0 ∷ 14 ∷ 4 ∷ 0 ∷ 0 ∷ 0 ∷ 16 ∷ [])
     ∷ row (run planA orderA (λ t. 1)) (0 ∷ 1 ∷ 1 ∷ 2 ∷ 2 ∷ 3 ∷ [])
     ∷ row (simulate (1 ∷ 1 ∷ 1 ∷ 1 ∷ 1 ∷ []) ++ simulate (1 ∷ 1 ∷ 0 ∷ 1 ∷ 1 ∷ [])) (0 ∷ 0 ∷ 18 ∷ 2 ∷ [])
     ∷ row (check planA orderA ++ check noPlan noConstraint) (0 ∷ 0 ∷ 8 ∷ 0 ∷ [])

@@ -64,7 +64,7 @@ fn advance(state: &mut State, report: u64) -> Result<u64, Refusal> {
     if state.finished == first_tasks(state.plan.tasks) {
         return refuse(13, 0);
     }
-    let faults = [(14, report & !look.running), (16, look.late & !report)];
+    let faults = [(16, look.late & !report), (14, report & !look.running)];
     if let Some((number, faulty)) = faults.into_iter().find(|(_, faulty)| *faulty != 0) {
         return refuse(number, faulty.trailing_zeros().into());
     }
