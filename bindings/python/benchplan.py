@@ -286,7 +286,7 @@ class State:
         self._state = state
 
     def tick(self, report):
-        """The state one instant on, with the reported tasks finished, and the set of tasks to begin; 12, 13, 16, 14.
+        """The state one instant on, with the reported tasks finished, and the set of tasks to begin; the first of 12, 13, 16, 14 that applies.
         The set may be empty while nothing runs, if the next task waits for its not-before instant: tick on."""
         reply = _accepted(_library.bench_tick(self._state, _set_of(report)))
         return State(reply.state), _tasks_of(reply.started)

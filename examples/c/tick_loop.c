@@ -44,7 +44,7 @@ int main(int words, char **word) {
         case BENCH_ACCEPTED: say(++instant, run.started); break;
         case BENCH_RUN_OVER: printf("the run is over\n"); return 0;
         case BENCH_NOT_RUNNING: printf("task %zu is not running: report again\n", run.place); break;
-        case BENCH_OVERRUN: printf("task %zu has run its worst time: stop\n", run.place); return 1;
+        case BENCH_OVERRUN: printf("task %zu has run its worst time: if it has finished, report again with it, otherwise stop\n", run.place); break;
         default: printf("the state was altered: stop\n"); return 1;
         }
     }

@@ -35,8 +35,7 @@ def main(path):
             if refusal.number == 14:
                 print(f"task {refusal.place} is not running: report again")
             elif refusal.number == 16:
-                print(f"task {refusal.place} has run its worst time: stop")
-                sys.exit(1)
+                print(f"task {refusal.place} has run its worst time: if it has finished, report again with it, otherwise stop")
             else:
                 sys.exit(f"the state was altered: {refusal}")
     sys.exit("no more reports")
