@@ -96,9 +96,9 @@ bench_slacks bench_margins(bench_plan plan, bench_constraint constraint);
    lower number. The check takes it, and its bound is at most the greatest finish of the records. */
 bench_adoption bench_adopt(bench_plan plan, const bench_record *records, size_t records_length);
 
-/* A live run: the state and the tasks to begin at instant 0, then one instant on, with the reported tasks finished (the first of 12, 13, 16, 14 that applies). While a
-   task waits for its not-before instant there may be no task running and none to begin, at start, too. The run is not over: tick on, once each
-   period, with an empty report; only 13 says that it is over. */
+/* A live run: the state and the tasks to begin at instant 0, then one instant on, with the reported tasks finished (the first of 12, 13, 16, 14 that
+   applies). While a task waits for its not-before instant there may be no task running and none to begin, at start, too. The run is not over: tick on,
+   once each period, with an empty report; only 13 says that it is over. */
 bench_ticked bench_start(bench_plan plan, bench_constraint constraint);
 bench_ticked bench_tick(bench_state state, uint64_t report);
 

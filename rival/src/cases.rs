@@ -73,8 +73,10 @@ pub const RELEASED: Case = (0, "start at its instant");
 /// Of runs in which a task waits for its not-before instant.
 pub const WAITS: [Case; 3] = [HELD, IDLE, RELEASED];
 
-/// A stranger is a reported task that does not run; an overrun is a task that runs, is not reported
-/// and at the new instant has run its worst.
+// A stranger is a reported task that does not run; an overrun is a task that runs, is not reported
+// and at the new instant has run its worst.
+
+/// A stranger in a run that is idle.
 pub const IDLE_REPORT: Case = (14, "while nothing runs");
 pub const STRANGER_ALONE: Case = (14, "without an overrun");
 pub const OVERRUN_ALONE: Case = (16, "without a stranger");

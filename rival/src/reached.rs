@@ -311,8 +311,8 @@ impl Reached {
         self.add_cases(command, cases_of_walk(state, instant, started));
     }
 
-    /// Notes the cases of a tick that answers a report at this instant so, from the state after it
-    /// or a later one.
+    /// Notes the cases of a report at this instant and of its answer, from the state after it or a
+    /// later one.
     pub fn note_tick(
         &mut self,
         command: &'static str,

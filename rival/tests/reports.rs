@@ -118,7 +118,8 @@ fn cases_of_reports() {
     assert_eq!([0b1100, 0b1_0100].map(case), [[LOWER_STRANGER]; 2]);
 }
 
-/// Of answers that no report has: 14 with both faults, and 16 with the stranger as place.
+/// Of answers that no report has, 14 with both faults and 16 with the stranger as place, beside a 14
+/// that is right.
 #[test]
 fn cases_of_wrong_answers() {
     let (state, _) = after(&TASK_1_IS_DUE);

@@ -1,5 +1,5 @@
--- The theorems about runs, each stated once, of tasks of a plan and a constraint that the check takes. Open this file first.
--- Assumes nothing.
+-- The theorems about runs, each stated once: of a plan and a constraint that the check takes, and last, about one report, of any plan and
+-- any notes. Open this file first. Assumes nothing.
 use mathlib.Core.Path.{_≡_, refl, _∙_}
 use mathlib.Core.Bool.{Bool, true, false, cond, _&&_, not}
 use mathlib.Core.List.{List}
@@ -133,7 +133,7 @@ module _ (p : Plan) (c : Constraint) (ok : verdict p c .number ≡ 0) where
 -- ---- one report, of any plan and on any notes: what "the order at a tick is 12, 13, 16, 14" changed (document 02, 7)
 
 module _ (p : Plan) (c : Constraint) (n : Notes) (report : ℕ) where
-  -- the order before it: 13, 14, 16 (document 01, "When an operation says no", Tick)
+  -- the order before it: 13, 14, 16 (document 01, "When an operation says no", Tick; without 15: document 02, 1)
   abbrev pub strangerFirst : Verdict
   strangerFirst =
       cond (over p n) (refused 13 0)
