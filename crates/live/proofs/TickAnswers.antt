@@ -7,7 +7,7 @@ use native.Mathlib.Nat.{lt-of-le-of-lt}
 use native.Mathlib.Omega.{arith}
 use borrow.Author.Tests.{ne-eqb, eq-eqb}
 use lib.Bits.{bitAnd, and-le-l}
-use Rattle.task_set.specs.Bounded.{all, tabulate}
+use Rattle.task_set.specs.Bounded.{all, first, tabulate}
 use Rattle.task_set.specs.Sets.{width, has, without}
 use Rattle.task_set.proofs.Truth.{by-test}
 use Rattle.task_set.proofs.Members.{without-small}
@@ -16,8 +16,9 @@ use Rattle.plan.specs.Rules.{mostTasks}
 use Rattle.plan.specs.Refusals.{refused, noRefusal, firstRefusal}
 use Rattle.plan.proofs.Accepted.{Accepted, accepted}
 use Rattle.runs.specs.Running.{Notes, entries, dispatch, step, over}
-use Rattle.runs.specs.Journal.{idle, refusal, newlyStarted}
+use Rattle.runs.specs.Journal.{idle, overdue, refusal, newlyStarted}
 use Rattle.runs.proofs.Sound.{report-timely}
+use Rattle.runs.proofs.Theorems.{strangerFirst, bothFaults, hung-first}
 use Rattle.live.specs.declared.State.{State}
 use Rattle.live.specs.States.{notesOf}
 use Rattle.live.specs.Soundness.{isSound}
@@ -35,6 +36,15 @@ module _ (s : State) (report : ℕ) where
   pub says-12 : isSound s ≡ false → tickVerdict s report ≡ refused 12 0
   unfolding tickVerdict firstRefusal
   says-12 e = rw e refl
+
+  -- theorem `hung-first`, of a tick on any state (document 02, 7)
+  pub tick-hung-first : tickVerdict s report
+      ≡ firstRefusal (cond (isSound s) noRefusal (refused 12 0))
+      (cond (bothFaults (s .plan) (s .constraint) (notesOf s) report)
+      (refused 16 (first width (overdue (s .plan) (s .constraint) (notesOf s) report)))
+      (strangerFirst (s .plan) (s .constraint) (notesOf s) report))
+  unfolding tickVerdict
+  tick-hung-first = ap (firstRefusal _) (hung-first (s .plan) (s .constraint) (notesOf s) report)
 
   module _ (sound : isSound s ≡ true) where
     sound-verdict : tickVerdict s report ≡ refusal (s .plan) (s .constraint) (notesOf s) report

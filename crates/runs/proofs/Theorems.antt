@@ -157,8 +157,7 @@ module _ (p : Plan) (c : Constraint) (n : Notes) (report : ℕ) where
           → cond ended r13 (cond late r16 (cond stranger r14 noRefusal))
           ≡ cond (not ended && (stranger && late)) r16 (cond ended r13 (cond stranger r14 (cond late r16 noRefusal)))
       tried true stranger late r13 r14 r16 = refl
-      tried false true true r13 r14 r16 = refl
-      tried false true false r13 r14 r16 = refl
+      tried false true late r13 r14 r16 = refl
       tried false false late r13 r14 r16 = refl
 
   -- "reports with both faults gave 14"
