@@ -1,17 +1,17 @@
 -- What a plan that breaks no rule gives. Assumes nothing.
-use mathlib.Core.Path.{_≡_, sym, _∙_}
-use mathlib.Core.Bool.{Bool, true, false, _&&_, _||_, not, or-false}
+use mathlib.Core.Path.{_≡_, refl, sym, _∙_}
+use mathlib.Core.Bool.{Bool, true, false, _&&_, _||_, not, and-false, or-false}
 use mathlib.Core.List.{List}
 use mathlib.Core.Logic.{_⊎_, inl, inr, ⊎-elim}
-use Prim.Native.Nat.{ℕ, _≤_, _<_}
+use Prim.Native.Nat.{ℕ, _≤_, _<_, zero-le}
 use native.Mathlib.Nat.{lt-of-lt-of-le}
 use native.Mathlib.Omega.{arith}
 use borrow.Author.Tests.{eqb-true, leb-true, ltb-true, ltb-false, lt-ltb, not-true}
 use lib.Dec.{eqb, leb, ltb}
 use lib.ListN.{getD}
-use Rattle.task_set.specs.Bounded.{all, implies}
+use Rattle.task_set.specs.Bounded.{all, any, implies}
 use Rattle.task_set.specs.Sets.{width, has}
-use Rattle.task_set.proofs.Truth.{by-test, and-left, and-right, or-cases, implies-elim}
+use Rattle.task_set.proofs.Truth.{by-test, clash, and-left, and-right, or-cases, implies-elim}
 use Rattle.task_set.proofs.Bounded.{all-elim}
 use Rattle.plan.specs.declared.Plan.{Plan}
 use Rattle.plan.specs.Rules.{mostTypes, mostUnits, mostTasks, longestTime, latestDeadline, latestRelease, between, timeOf, predecessorsOf, instantOf, deadlineOf, releaseOf, usable, countsOk, unitsOk, pairOk, pairsOk, someTypeOk, predecessorsOk, taskOk, instantOk, planOk}
@@ -36,23 +36,34 @@ pub record Times (best worst : ℕ) : Type 0 where
   pub ordered : best ≤ worst
   pub short : worst ≤ longestTime
 
-pair-times : (here : Bool) (best worst : ℕ) → pairOk here best worst ≡ true → ltb 0 worst ≡ true → Times best worst
-unfolding pairOk
-pair-times here best worst e f = go (or-cases (eqb best 0 && eqb worst 0) (here && rest) e)
-  where
-    rest : Bool
-    rest = leb 1 best && (leb best worst && leb worst longestTime)
+module _ (here : Bool) (best worst : ℕ) (ok : pairOk here best worst ≡ true) where
+  abbrev in-range : Bool
+  in-range = leb 1 best && (leb best worst && leb worst longestTime)
 
-    go : (eqb best 0 && eqb worst 0 ≡ true) ⊎ (here && rest ≡ true) → Times best worst
-    go (inl g) = absurd (omega (arith, ltb-true 0 worst f, eqb-true worst 0 (and-right (eqb best 0) (eqb worst 0) g)))
-    go (inr g) =
-        let r = and-right here rest g in
-        let q = and-right (leb 1 best) (leb best worst && leb worst longestTime) r in
-        record {
-          some = leb-true 1 best (and-left (leb 1 best) (leb best worst && leb worst longestTime) r);
-          ordered = leb-true best worst (and-left (leb best worst) (leb worst longestTime) q);
-          short = leb-true worst longestTime (and-right (leb best worst) (leb worst longestTime) q);
-        }
+  -- it is 0 and 0, or one of a present task and type
+  pair-cases : ((best ≡ 0) × (worst ≡ 0)) ⊎ ((here ≡ true) × Times best worst)
+  unfolding pairOk
+  pair-cases = go (or-cases (eqb best 0 && eqb worst 0) (here && in-range) ok)
+    where
+      go : (eqb best 0 && eqb worst 0 ≡ true) ⊎ (here && in-range ≡ true) → ((best ≡ 0) × (worst ≡ 0)) ⊎ ((here ≡ true) × Times best worst)
+      go (inl g) = inl (eqb-true best 0 (and-left (eqb best 0) (eqb worst 0) g), eqb-true worst 0 (and-right (eqb best 0) (eqb worst 0) g))
+      go (inr g) =
+          let r = and-right here in-range g in
+          let q = and-right (leb 1 best) (leb best worst && leb worst longestTime) r in
+          inr (
+            and-left here in-range g,
+            record {
+              some = leb-true 1 best (and-left (leb 1 best) (leb best worst && leb worst longestTime) r);
+              ordered = leb-true best worst (and-left (leb best worst) (leb worst longestTime) q);
+              short = leb-true worst longestTime (and-right (leb best worst) (leb worst longestTime) q);
+            },
+          )
+
+  pair-short : worst ≤ longestTime
+  pair-short = ⊎-elim (λ z. omega (arith, z .1)) (λ h. h .1 .short) pair-cases
+
+  pair-used : ltb 0 worst ≡ true → (here ≡ true) × Times best worst
+  pair-used u = ⊎-elim (λ z. absurd (omega (arith, ltb-true 0 worst u, z .1))) (λ h. h) pair-cases
 
 -- where the rule of instants holds of all numbers, one that has an instant is a task, and the instant is in range
 instant-kept : (tasks latest : ℕ) (instants : List ℕ) → all mostTasks (instantOk tasks latest instants) ≡ true → (t : ℕ)
@@ -157,15 +168,35 @@ module _ (p : Plan) (e : planOk p ≡ true) where
         (and-left tasks-rule _ per-task) t
         (lt-of-lt-of-le present few-tasks)
 
+    pair-ok : (k : ℕ) → k < mostTypes
+        → pairOk (ltb t (p .tasks) && ltb k (p .types)) (timeOf (p .bcet) t k) (timeOf (p .wcet) t k) ≡ true
+    unfolding pairsOk
+    pair-ok = all-elim mostTypes _ (and-left pairs-rule (type-rule && predecessors-rule) task-ok)
+
     pub usable-times : (k : ℕ) → k < p .types → usable (p .wcet) t k ≡ true → Times (timeOf (p .bcet) t k) (timeOf (p .wcet) t k)
-    unfolding pairsOk usable
-    usable-times k m u =
-        pair-times (ltb t (p .tasks) && ltb k (p .types)) (timeOf (p .bcet) t k) (timeOf (p .wcet) t k)
-        (all-elim mostTypes pair-rule (and-left pairs-rule (type-rule && predecessors-rule) task-ok) k
-        (lt-of-lt-of-le m few-types)) u
-      where
-        pair-rule : ℕ → Bool
-        pair-rule k = pairOk (ltb t (p .tasks) && ltb k (p .types)) (timeOf (p .bcet) t k) (timeOf (p .wcet) t k)
+    unfolding usable
+    usable-times k m u = pair-used _ _ _ (pair-ok k (lt-of-lt-of-le m few-types)) u .1
+
+    -- no time is longer than the longest, and a type that the task can use is one of the plan
+    pub short-time : (k : ℕ) → timeOf (p .wcet) t k ≤ longestTime
+    unfolding timeOf
+    short-time k =
+        by-test (ltb k mostTypes) (λ e. pair-short _ _ _ (pair-ok k (ltb-true k mostTypes e)))
+        (λ e. rw (e, and-false (ltb t mostTasks)) zero-le)
+
+    pub usable-type : (k : ℕ) → usable (p .wcet) t k ≡ true → k < p .types
+    unfolding usable timeOf
+    usable-type k u =
+        by-test (ltb k mostTypes)
+        (λ e. ltb-true k (p .types) (and-right (ltb t (p .tasks)) _ (pair-used _ _ _ (pair-ok k (ltb-true k mostTypes e)) u .0)))
+        (λ e. absurd (clash u (rw (e, and-false (ltb t mostTasks)) refl)))
+
+    pub some-type : any mostTypes (usable (p .wcet) t) ≡ true
+    unfolding someTypeOk
+    some-type =
+        implies-elim (ltb t (p .tasks)) _
+        (and-left type-rule predecessors-rule (and-right pairs-rule (type-rule && predecessors-rule) task-ok))
+        (lt-ltb t (p .tasks) present)
 
     abbrev predecessors : ℕ
     predecessors = predecessorsOf (p .predecessors) t

@@ -30,8 +30,8 @@ use Rattle.runs.proofs.Positions.{taskAt, typeAt, position, position-entry, hor
 use Rattle.runs.proofs.Orders.{orderOf, Lasting, durations, startsOf, startOf, finishOf, greedy}
 use Rattle.runs.proofs.Closed.{timed-closed}
 use Rattle.runs.proofs.Response.{ends-by, ended-start, ended-finish, response-ends}
-use Rattle.simulation.specs.Simulated.{ran}
-use Rattle.simulation.specs.Steps.{latestOf, unitIndex, freeFrom, FreeFirst}
+use Rattle.simulation.specs.Simulated.{ran, latestOf}
+use Rattle.simulation.specs.Steps.{unitIndex, freeFrom, FreeFirst}
 use Rattle.simulation.proofs.ByTask.{tabled, tabled-none, tabled-more, tabled-at, tabled-all}
 
 -- the loop has come to position k: the positions before it have started and finish, and hold their units;

@@ -13,7 +13,8 @@ use Rattle.task_set.specs.Sets.{width, has, remove, lowest}
 use Rattle.task_set.proofs.Members.{has-none, has-remove, lowest-low, lowest-member}
 use Rattle.plan.specs.Rules.{mostTypes, mostUnits}
 use Rattle.dispatch_theory.proofs.Sums.{greatest-lub, greatest-apart}
-use Rattle.simulation.specs.Steps.{latestOf, unitIndex, freeFrom, FreeFirst}
+use Rattle.simulation.specs.Simulated.{latestOf}
+use Rattle.simulation.specs.Steps.{unitIndex, freeFrom, FreeFirst}
 
 -- ---- the latest finish of a set: its lowest member is looked at and removed
 

@@ -6,11 +6,13 @@ use Prim.Native.Nat.{ℕ}
 use lib.Dec.{eqb}
 use lib.ListN.{length, getD}
 use Rattle.task_set.specs.Bounded.{tabulate}
+use Rattle.task_set.specs.Sets.{width, has}
 use Rattle.plan.specs.declared.Plan.{Plan}
 use Rattle.plan.specs.declared.Constraint.{Constraint}
 use Rattle.plan.specs.declared.Verdict.{Verdict}
 use Rattle.plan.specs.Rules.{mostTasks}
 use Rattle.plan.specs.Refusals.{refused, noRefusal, unlessAt, firstRefusal, verdict}
+use Rattle.dispatch_theory.specs.Sums.{greatest}
 use Rattle.runs.specs.Running.{worst, allowed, orZero, ended, response}
 use Rattle.simulation.specs.declared.Simulation.{Simulation}
 
@@ -63,3 +65,7 @@ simulated p c times =
 -- "The bound is the simulation with the worst times of the chosen types": its response
 unfoldable pub worstCase : Plan → Constraint → Simulation
 worstCase p c = cond (eqb (verdict p c .number) 0) (ran p c (worst p c)) (notRun (verdict p c))
+
+-- the latest finish of the members of a set
+unfoldable pub latestOf : List ℕ → ℕ → ℕ
+latestOf finishes s = greatest width (λ t. cond (has s t) (getD finishes t 0) 0)

@@ -1,15 +1,13 @@
 -- What the inner functions of the simulation compute. No promise of a public function cites it. Assumes nothing.
 use mathlib.Core.Path.{_≡_}
-use mathlib.Core.Bool.{Bool, true, false, cond, not}
+use mathlib.Core.Bool.{Bool, true, false, not}
 use mathlib.Core.List.{List}
 use Prim.Native.Nat.{ℕ, _+_, _*_, _≤_, _<_}
 use lib.ListN.{length, getD}
-use Rattle.task_set.specs.Sets.{width, has}
 use Rattle.plan.specs.declared.Plan.{Plan}
 use Rattle.plan.specs.Rules.{mostUnits, mostTasks, longestTime, timeOf, between}
 use Rattle.plan.specs.declared.Constraint.{Constraint}
 use Rattle.plan.specs.Refusals.{entryAt, verdict}
-use Rattle.dispatch_theory.specs.Sums.{greatest}
 use Rattle.simulation.specs.declared.Simulation.{Simulation}
 use Rattle.simulation.specs.Simulated.{timeIn, ran}
 
@@ -33,10 +31,6 @@ pub record LowestOf (n : ℕ) (order : List ℕ) (fails : ℕ → Bool) (k r : �
   pub found : r < n → (i : ℕ) × (i < k) × (entryAt order i ≡ r) × (fails i ≡ true)
 
 -- ---- the run
-
--- the latest finish of the members of a set
-unfoldable pub latestOf : List ℕ → ℕ → ℕ
-latestOf finishes s = greatest width (λ t. cond (has s t) (getD finishes t 0) 0)
 
 -- where an array of the units, type by type, keeps unit u of a type: the instant from which it is free
 abbrev pub unitIndex : ℕ → ℕ → ℕ

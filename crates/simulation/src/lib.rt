@@ -14,6 +14,9 @@ use times::first_outside;
 mod run;
 mod times;
 
+pub use run::later;
+pub use run::latest_finish;
+
 // The start and the finish of each task, by task number, and the response; zeros where refused.
 #[repr(C)]
 pub struct Simulation {

@@ -2,7 +2,8 @@
 ghost use mathlib.Core.Path.{_≡_};
 ghost use Prim.Native.Nat.{_<_, _≤_, max};
 ghost use Rattle.plan.specs.Rules.{mostTypes, mostUnits};
-ghost use Rattle.simulation.specs.Steps.{FreeFirst, RunOf, Runnable, latestOf};
+ghost use Rattle.simulation.specs.Simulated.{latestOf};
+ghost use Rattle.simulation.specs.Steps.{FreeFirst, RunOf, Runnable};
 use crate::Simulation;
 use plan::Constraint;
 use plan::MOST_TASKS;
@@ -14,14 +15,14 @@ const MOST_PER_TYPE: usize = plan::MOST_UNITS as usize;
 
 const ALL_UNITS: usize = MOST_TYPES * MOST_PER_TYPE;
 
-fn later(a: u32, b: u32) -> u32
+pub fn later(a: u32, b: u32) -> u32
     ensures { λ r. ⌜ r ≡ max a b ⌝ }
 {
     if a < b { b } else { a }
 }
 
 // The latest finish of the tasks of a set, and 0 for the empty set.
-fn latest_finish(finishes: &[u32; MOST_TASKS], s: u64) -> u32
+pub fn latest_finish(finishes: &[u32; MOST_TASKS], s: u64) -> u32
     ensures { λ r. ⌜ r ≡ latestOf (now (finishes .entry)) s ⌝ }
 {
     let mut latest = 0;
@@ -29,7 +30,7 @@ fn latest_finish(finishes: &[u32; MOST_TASKS], s: u64) -> u32
     while left != 0 {
         let t = task_set::lowest_member(left) as usize;
         latest = later(latest, finishes[t]);
-        left = task_set::removed(left, t);
+        left = task_set::without_lowest(left);
     }
     latest
 }

@@ -223,6 +223,13 @@ pub count-less : (n : ℕ) (p : ℕ → Bool) (k : ℕ) → k < n → p k ≡ tr
 unfolding count
 count-less n p k l e = le-trans (rw e (omega arith)) (count-grows (suc k) n p l)
 
+-- nothing passes from n on
+pub count-past : (n m : ℕ) (p : ℕ → Bool) → n ≤ m → ((i : ℕ) → n ≤ i → i < m → p i ≡ false) → count m p ≡ count n p
+unfolding count
+count-past n m p l h =
+    le-ind (λ k. ((i : ℕ) → n ≤ i → i < k → p i ≡ false) → count k p ≡ count n p) (λ h. refl)
+    (λ k l ih h. rw (h k l (lt-suc-self k), add-zero) (ih (λ i a b. h i a (le-step b)))) m l h
+
 -- a loop's next step
 count-next : (n : ℕ) (p : ℕ → Bool) → count (n + 1) p ≡ count n p + cond (p n) 1 0
 unfolding count

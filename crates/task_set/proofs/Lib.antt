@@ -9,6 +9,8 @@ pub mod Search
 pub mod Upto
 -- n different numbers below n are all of them
 pub mod Cover
+-- numbers that pass, with values of their own, are no more than the values
+pub mod Pigeons
 -- members of a set in a word
 pub mod Members
 -- lists by index

@@ -1,8 +1,9 @@
 -- The laws of membership, each once over the width. Assumes nothing.
 use mathlib.Core.Path.{_≡_, refl, sym, ap, ap₂, _∙_, subst}
 use mathlib.Core.Bool.{Bool, true, false, cond, _&&_, _||_, not, and-true, and-false, or-true, or-false, Bool·not-not}
+use mathlib.Core.Logic.{⊎-elim}
 use Prim.Native.Nat.{ℕ, zero, suc, _+_, _-_, _*_, _/_, _%_, _^_, _≤_, _<_, zero-le, suc-le-suc, min, max}
-use native.Mathlib.Nat.{le-of-suc-le, le-of-suc-le-suc, not-suc-le-zero, zero-lt-suc, le-refl, mod-lt, div-one, div-eq-of-lt, zero-div, div-add-mod', lt-of-lt-of-le, lt-of-le-of-lt, div-lt-iff-lt-mul, pow-suc, one-mul, mod-le}
+use native.Mathlib.Nat.{le-of-suc-le, le-of-suc-le-suc, not-suc-le-zero, zero-lt-suc, le-refl, le-trans, le-of-eq, mod-lt, div-one, div-eq-of-lt, zero-div, div-add-mod', lt-of-lt-of-le, lt-of-le-of-lt, div-lt-iff-lt-mul, pow-suc, one-mul, mod-le}
 use native.Mathlib.Numerals.{one-add, add-one}
 use native.Mathlib.Omega.{arith}
 use lib.Arith.{digits-div, digits-mod, lt-one}
@@ -13,8 +14,8 @@ use lib.Pow.{pow-pos, pow-mono, pow-lt, shl-exact, shr-shr, field, mod-mod-pow}
 use borrow.Author.Tests.{eq-eqb, eqb-true, ne-eqb, eqb-false, le-ltb, lt-ltb, ltb-true, ltb-false, not-true}
 use Rattle.task_set.specs.Bounded.{all, any, count, first, implies}
 use Rattle.task_set.specs.Sets.{width, has, insert, without, remove, setOf, below, intersect, lowest, size}
-use Rattle.task_set.proofs.Truth.{clash, by-test, same, and-left, and-right, and-both, or-right}
-use Rattle.task_set.proofs.Bounded.{all-intro, all-elim, any-intro, any-elim, any-cong, not-all, count-cong, count-front, count-more}
+use Rattle.task_set.proofs.Truth.{clash, by-test, same, and-left, and-right, and-both, or-right, or-cases}
+use Rattle.task_set.proofs.Bounded.{all-intro, all-elim, any-intro, any-elim, any-cong, not-all, count-cong, count-front, count-more, count-mono}
 use Rattle.task_set.proofs.Search.{First, first-is, first-cong}
 
 two-pos : zero < 2
@@ -297,6 +298,21 @@ lowest-low s h f =
     none : width ≤ lowest s → (t : ℕ) → t < width → has s t ≡ has 0 t
     none l t m = lowest-first s .searched .before t (lt-of-lt-of-le m l) ∙ sym (has-none t)
 
+-- s - 1 has every member of s but the lowest, l
+has-pred : (l s t : ℕ) → has s l ≡ true → ((i : ℕ) → i < l → has s i ≡ false) → has s t ≡ true → has (s - 1) t ≡ not (eqb l t)
+has-pred zero s zero e f g =
+    let q : (s - 1) % 2 ≡ 0 = omega (arith, eqb-true (s % 2) 1 (sym (has-zero s) ∙ e)) in
+    has-zero (s - 1) ∙ rw q
+has-pred zero s (suc t) e f g =
+    let q : (s - 1) / 2 ≡ s / 2 = omega (arith, eqb-true (s % 2) 1 (sym (has-zero s) ∙ e)) in
+    has-suc (s - 1) t ∙ rw (q, ← has-suc s t, eqb·zero-suc t) g
+has-pred (suc l) s zero e f g = absurd (clash g (f 0 (zero-lt-suc l)))
+has-pred (suc l) s (suc t) e f g =
+    let q : (s - 1) / 2 ≡ s / 2 - 1 = omega (arith, eqb-false (s % 2) 1 (sym (has-zero s) ∙ f 0 (zero-lt-suc l))) in
+    has-suc (s - 1) t
+    ∙ rw (q, eqb·suc-suc l t)
+    (has-pred l (s / 2) t (sym (has-suc s l) ∙ e) (λ i m. sym (has-suc s i) ∙ f (suc i) (suc-le-suc m)) (sym (has-suc s t) ∙ g))
+
 -- ---- the count of ones is the number of members, and of a masked set the number of members that pass
 
 digit-cond : (x : ℕ) → x < 2 → x ≡ cond (eqb x 1) 1 0
@@ -323,6 +339,22 @@ size-remove s t l e =
     go i true q = or-true (has s i && false) ∙ sym (ap (has s) (sym (eqb-true t i q)) ∙ e)
     go i false q = or-false (has s i && true) ∙ and-true (has s i)
 
+-- a set that lacks a member of a larger one has fewer
+pub size-grows : (a b : ℕ) → a < 2 ^ width → b < 2 ^ width → ((t : ℕ) → t < width → has a t ≡ true → has b t ≡ true)
+    → (a ≡ b → ⊥) → size a < size b
+unfolding size
+size-grows a b ha hb h f =
+    by-test (ltb (size a) (size b)) (ltb-true _ _)
+    (λ e. absurd (f (set-ext width a b ha hb
+    (λ t l. same (has a t) (has b t) (h t l)
+    (λ g. by-test (has a t) (λ i. i) (λ n. absurd (omega (arith, ltb-false (size a) (size b) e, lacks t l g n))))))))
+  where
+    lacks : (t : ℕ) → t < width → has b t ≡ true → has a t ≡ false → size a < size b
+    lacks t l g n =
+        le-trans (le-of-eq (sym (count-more width (has a) t l n)))
+        (count-mono width (λ i. has a i || eqb t i) (has b)
+        (λ i m e. ⊎-elim (h i m) (λ q. ap (has b) (sym (eqb-true t i q)) ∙ g) (or-cases (has a i) (eqb t i) e)))
+
 -- ---- a loop over the members: the lowest is looked at and removed
 
 module _ (s : ℕ) (fits : s < 2 ^ width) (some : s ≡ 0 → ⊥) where
@@ -331,3 +363,16 @@ module _ (s : ℕ) (fits : s < 2 ^ width) (some : s ≡ 0 → ⊥) where
 
   pub fewer-left : size (remove s (lowest s)) < size s
   fewer-left = omega (arith, size-remove s (lowest s) (lowest-low s fits some) lowest-member)
+
+  -- the bits that s and s - 1 share are the members but the lowest
+  pub pred-mask : bitAnd s (s - 1) ≡ remove s (lowest s)
+  unfolding remove
+  pred-mask =
+      let low = lowest-low s fits some in
+      set-ext width _ _ (lt-of-le-of-lt (and-le-l s (s - 1)) fits)
+      (rw (lt-ltb (lowest s) width low) (without-small width s _ fits))
+      (λ t m. has-and t s (s - 1)
+      ∙ by-test (has s t)
+      (λ e. ap (λ (b : Bool). has s t && b) (has-pred (lowest s) s t lowest-member (lowest-first s .searched .before) e))
+      (λ e. rw e)
+      ∙ sym (has-remove s (lowest s) t low))

@@ -33,6 +33,16 @@ pub fn removed(s: u64, t: usize) -> u64
     s ^ (s & (1u64 << t))
 }
 
+// The members of s but the lowest.
+pub fn without_lowest(s: u64) -> u64
+    ensures { λ r. ⌜ r ≡ remove s (lowest s) ⌝ }
+{
+    if s == 0 {
+        return 0;
+    }
+    s & (s - 1)
+}
+
 // The members of a that are not members of b.
 pub fn difference(a: u64, b: u64) -> u64
     ensures { λ r. ⌜ r ≡ without a b ⌝ }

@@ -4,7 +4,7 @@ use Prim.Native.Nat.{max, _<_, _^_}
 use native.Mathlib.Nat.{zero-max}
 use borrow.Author.Needs.{needs}
 use Rattle.task_set.specs.Sets.{size, width}
-use Rattle.simulation.specs.Steps.{latestOf}
+use Rattle.simulation.specs.Simulated.{latestOf}
 use Rattle.task_set.proofs.Members.{lowest-low, fewer-left}
 use Rattle.simulation.proofs.Waits.{latest-more, latest-end}
 use Rattle.simulation.proofs.run.latest_finish.Statement.{statement}
@@ -18,14 +18,14 @@ abbrev μ-loop : tie.MeasureT-loop
 
 loop-less : tie.Need-loop-less Inv-loop μ-loop
 loop-less c =
-    rw (c .removed .ensures, c .before .before .before .lowest-member .ensures)
+    rw (c .without-lowest .ensures)
     (fewer-left _ (c .before .before .before .before .before .loop .inv .0) (c .before .before .before .before .loop-test .taken))
 
 loop-again : tie.Need-loop-again Inv-loop μ-loop
 loop-again c =
     let l = c .before .before .before .before .before in (
       search needs,
-      rw (c .removed .ensures, c .before .later .ensures, c .before .before .before .lowest-member .ensures)
+      rw (c .without-lowest .ensures, c .before .later .ensures, c .before .before .before .lowest-member .ensures)
           (latest-more _ (l .loop .inv .0) (c .before .before .before .before .loop-test .taken) _ _ ∙ l .loop .inv .1),
     )
 
