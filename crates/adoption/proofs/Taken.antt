@@ -1,22 +1,24 @@
 -- What a schedule that nothing refuses gives. Assumes nothing.
-use mathlib.Core.Path.{_≡_, subst}
-use mathlib.Core.Bool.{Bool, true, false, _||_, not}
+use mathlib.Core.Path.{_≡_, refl, sym, ap, _∙_, subst}
+use mathlib.Core.Bool.{Bool, true, false, _&&_, _||_, not}
 use Prim.Native.Nat.{ℕ, _+_, _≤_, _<_}
-use native.Mathlib.Nat.{lt-of-lt-of-le}
+use native.Mathlib.Nat.{le-refl, lt-of-lt-of-le, lt-trans}
 use native.Mathlib.Omega.{arith}
-use borrow.Author.Tests.{eqb-true, leb-false, ltb-true, ltb-false, not-false}
+use borrow.Author.Tests.{eq-eqb, ne-eqb, eqb-true, leb-false, lt-leb, le-ltb, ltb-true, ltb-false, not-false}
 use lib.Dec.{eqb, leb, ltb}
 use lib.ListN.{getD}
 use Rattle.task_set.specs.Bounded.{count}
 use Rattle.task_set.specs.Sets.{has}
-use Rattle.task_set.proofs.Truth.{by-test, clash, and-both, or-left-off, or-right-off}
-use Rattle.task_set.proofs.Bounded.{any-off}
+use Rattle.task_set.proofs.Truth.{by-test, clash, and-both, or-none, or-left-off, or-right-off}
+use Rattle.task_set.proofs.Bounded.{any-none, any-off}
+use Rattle.task_set.proofs.Search.{first-absent}
 use Rattle.plan.specs.declared.Plan.{Plan}
 use Rattle.plan.specs.Rules.{timeOf, predecessorsOf, releaseOf, usable, planOk}
-use Rattle.plan.specs.Refusals.{misplaced, unusable}
+use Rattle.plan.specs.declared.Verdict.{Verdict}
+use Rattle.plan.specs.Refusals.{misplaced, unusable, noRefusal, unlessAt}
 use Rattle.plan.specs.Steps.{Positions}
 use Rattle.plan.proofs.Kept.{few-tasks, few-types}
-use Rattle.plan.proofs.Refusing.{cond-passed, unless-passed}
+use Rattle.plan.proofs.Refusing.{cond-passed, unless-none, unless-passed}
 use Rattle.plan.proofs.Arranged.{low, once, somewhere}
 use Rattle.adoption.specs.declared.Schedule.{Schedule}
 use Rattle.adoption.specs.Schedules.{taskAt, typeAt, startAt, finishAt, mistimed, holds, hasty, early, crowded, unmeetable, judged}
@@ -124,3 +126,45 @@ module _ {p : Plan} {s : Schedule} (a : Taken p s) where
   pub lasts : (i : ℕ) → i < p .tasks → startAt s i < finishAt s i
   unfolding usable
   lasts i l = omega (arith, a .ends i l, ltb-true 0 (timeOf (p .wcet) (taskAt s i) (typeAt s i)) (a .can-use i l))
+
+  -- ---- nothing is refused of it
+
+  listed : {i : ℕ} → i < s .len → i < p .tasks
+  listed l = omega (arith, a .whole)
+
+  not-20 : (i : ℕ) → i < s .len → misplaced (p .tasks) (s .tasks) i ≡ false
+  unfolding misplaced
+  not-20 i l =
+      or-none (lt-leb _ _ (a .task i (listed l)))
+      (any-none i _ (λ j m. ne-eqb _ _ (λ e. apart m (a .once j i (listed (lt-trans m l)) (listed l) e))))
+    where
+      apart : {x y : ℕ} → x < y → x ≡ y → ⊥
+      apart m e = omega arith
+
+  not-21 : (i : ℕ) → i < s .len → mistimed (p .types) (p .wcet) s i ≡ false
+  unfolding mistimed unusable
+  not-21 i l =
+      or-none (or-none (lt-leb _ _ (a .type i (listed l))) (ap not (a .can-use i (listed l)))) (ap not (eq-eqb _ _ (a .ends i (listed l))))
+
+  not-22 : (i : ℕ) → i < s .len → unmeetable (p .units) (p .predecessors) (p .releases) s i ≡ false
+  unfolding unmeetable hasty early crowded
+  not-22 i l = or-none (any-none (s .len) _ each) (or-none (le-ltb _ _ (a .released i (listed l))) (le-ltb _ _ room))
+    where
+      room : count (s .len) (holds s (typeAt s i) (startAt s i)) ≤ getD (p .units) (typeAt s i) 0
+      room = subst (λ (n : ℕ). count n (holds s (typeAt s i) (startAt s i)) ≤ getD (p .units) (typeAt s i) 0) (sym (a .whole)) (a .room i (listed l))
+
+      each : (j : ℕ) → j < s .len
+          → has (predecessorsOf (p .predecessors) (taskAt s i)) (taskAt s j) && ltb (startAt s i) (finishAt s j) ≡ false
+      each j m =
+          by-test (has (predecessorsOf (p .predecessors) (taskAt s i)) (taskAt s j))
+          (λ e. rw e (le-ltb _ _ (a .waited i j (listed l) (listed m) e))) (λ e. rw e refl)
+
+  pub judged-taken : judged p s ≡ noRefusal
+  unfolding judged
+  judged-taken =
+      rw (a .kept, eq-eqb (s .len) (p .tasks) (a .whole))
+      (none 20 _ _ not-20 ∙ none 21 _ _ not-21 ∙ none 22 _ _ not-22)
+    where
+      none : (number : ℕ) (fault : ℕ → Bool) (rest : Verdict) → ((i : ℕ) → i < s .len → fault i ≡ false)
+          → unlessAt number (s .len) fault rest ≡ rest
+      none number fault rest h = sym (unless-none number (s .len) fault rest (first-absent (s .len) fault h) (le-refl (s .len)))

@@ -5,11 +5,10 @@ use Prim.Native.Nat.{ℕ, _≤_}
 use native.Mathlib.Omega.{arith}
 use borrow.Author.Tests.{eq-eqb, ne-eqb}
 use lib.ListN.{length, drop, length-append}
-use Rattle.plan.specs.Refusals.{refused, noRefusal, firstRefusal}
+use Rattle.plan.specs.declared.Verdict.{Verdict}
+use Rattle.plan.specs.Refusals.{noRefusal, firstRefusal}
 use Rattle.plan.specs.Buffers.{atStart}
 use Rattle.plan_text.specs.declared.Answer.{Answer}
-use Rattle.simulation.specs.declared.Simulation.{Simulation}
-use Rattle.simulation.specs.Simulated.{worstCase}
 use Rattle.simulation.proofs.Ran.{first-taken}
 use Rattle.timetable.specs.declared.Written.{Written}
 use Rattle.timetable.specs.Table.{answered, bytesAfter}
@@ -38,19 +37,16 @@ Lined number place b n b₁ =
 
 -- ---- the answer to what is read, with what is shown where nothing is refused, in bytes enough for a refusal's line
 
-module _ (a : Answer) (shown b : List ℕ) (enough : 50 ≤ length b) where
-  abbrev s : Simulation
-  s = worstCase (a .plan) (a .constraint)
-
+module _ (a : Answer) (v : Verdict) (shown b : List ℕ) (enough : 50 ≤ length b) where
   abbrev Gives : ℕ → List ℕ → Type 0
-  Gives = Answers (orRefused a shown) b
+  Gives = Answers (orRefused a v shown) b
 
-  by-text : {t b₁ : List ℕ} {n : ℕ} → orRefused a shown ≡ t → Answers t b n b₁ → Gives n b₁
+  by-text : {t b₁ : List ℕ} {n : ℕ} → orRefused a v shown ≡ t → Answers t b n b₁ → Gives n b₁
   by-text f h = (h .0 ∙ ap length (sym f), h .1 ∙ ap (λ (t : List ℕ). atStart t b) (sym f))
 
   -- the line of a refusal fits
   by-line : (number place : ℕ) {n : ℕ} {b₁ : List ℕ}
-      → orRefused a shown ≡ refusalLine number place → Lined number place b n b₁ → Gives n b₁
+      → orRefused a v shown ≡ refusalLine number place → Lined number place b n b₁ → Gives n b₁
   unfolding lineWritten lineAfter
   by-line number place f h =
       let o = fits noRefusal (refusalLine number place) b refl (omega (arith, refusal-longest number place)) in
@@ -61,27 +57,27 @@ module _ (a : Answer) (shown b : List ℕ) (enough : 50 ≤ length b) where
   unread f h = let e = ne-eqb (a .number) 0 f in by-line _ _ (rw (e, e)) h
 
   -- what is read is written, or refused: w is answered, and the lent bytes are b₁
-  module _ (z : a .number ≡ 0) (room : s .number ≡ 0 → length shown ≤ length b) {w : Written} {b₁ : List ℕ}
-      (wrote : (w ≡ answered (refused (s .number) (s .place)) shown (length b))
-      × (b₁ ≡ bytesAfter (refused (s .number) (s .place)) shown b)) where
+  module _ (z : a .number ≡ 0) (room : v .number ≡ 0 → length shown ≤ length b) {w : Written} {b₁ : List ℕ}
+      (wrote : (w ≡ answered v shown (length b))
+      × (b₁ ≡ bytesAfter v shown b)) where
     -- what is not refused is written
-    all-fits : s .number ≡ 0 → (w ≡ record { number = 0; place = 0; written = length shown }) × (b₁ ≡ atStart shown b)
+    all-fits : v .number ≡ 0 → (w ≡ record { number = 0; place = 0; written = length shown }) × (b₁ ≡ atStart shown b)
     all-fits q =
-        let o = fits (refused (s .number) (s .place)) shown b q (room q) in
+        let o = fits v shown b q (room q) in
         (wrote .0 ∙ sym (o .answer), wrote .1 ∙ sym (o .bytes))
 
     pub refuses-it : {n : ℕ} {b₂ : List ℕ} → (w .number ≡ 0 → ⊥) → Lined (w .number) (w .place) b₁ n b₂ → Gives n b₂
     unfolding orRefused firstRefusal
     refuses-it f h =
-        let g : s .number ≡ 0 → ⊥ = λ q. f (ap (λ (r : Written). r .number) (all-fits q .0)) in
-        let o = refuses (refused (s .number) (s .place)) shown b g in
-        by-line _ _ (rw (eq-eqb (a .number) 0 z, ne-eqb (s .number) 0 g))
+        let g : v .number ≡ 0 → ⊥ = λ q. f (ap (λ (r : Written). r .number) (all-fits q .0)) in
+        let o = refuses v shown b g in
+        by-line _ _ (rw (eq-eqb (a .number) 0 z, ne-eqb (v .number) 0 g))
         (rw (wrote .0 ∙ sym (o .answer), wrote .1 ∙ sym (o .bytes)) at h)
 
     pub shows-it : w .number ≡ 0 → Gives (w .written) b₁
     unfolding orRefused firstRefusal
     shows-it f =
-        let q = first-taken (refused (s .number) (s .place)) _ (sym (ap (λ (r : Written). r .number) (wrote .0)) ∙ f) in
+        let q = first-taken v _ (sym (ap (λ (r : Written). r .number) (wrote .0)) ∙ f) in
         let o = all-fits q in
-        by-text {t = shown} (rw (eq-eqb (a .number) 0 z, eq-eqb (s .number) 0 q))
+        by-text {t = shown} (rw (eq-eqb (a .number) 0 z, eq-eqb (v .number) 0 q))
         (ap (λ (r : Written). r .written) (o .0), o .1)

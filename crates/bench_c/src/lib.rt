@@ -9,6 +9,7 @@ ghost use Rattle.dispatch_theory.specs.Sums.{sum};
 ghost use Rattle.runs.specs.Running.{bound, greatestRelease, worst};
 ghost use Rattle.simulation.specs.Simulated.{simulated, worstCase};
 ghost use Rattle.adoption.specs.Schedules.{adopted, greatestFinish, listed};
+ghost use Rattle.proposal.specs.Proposals.{proposed, scheduleBy};
 ghost use Rattle.slack.specs.Margins.{InRange, slacksOf};
 ghost use Rattle.timetable.specs.Table.{bufferAfter, timetabled, worstBufferAfter, worstTimetabled};
 ghost use Rattle.bench_answer.specs.Answer.{answerText};
@@ -24,6 +25,7 @@ use plan::Constraint;
 use plan::Plan;
 use plan::Verdict;
 use plan_text::Answer;
+use proposal::Proposal;
 use simulation::Simulation;
 use slack::Slacks;
 use timetable::Written;
@@ -92,6 +94,15 @@ pub extern "C" fn bench_adopt(p: Plan, records: &[Record]) -> Adoption
     ensures in_time { λ r. ⌜ (r .number ≡ 0 → bound p (r .constraint) ≤ greatestFinish (listed (now (records .entry)))) ⌝ }
 {
     adoption::adopt(p, records)
+}
+
+#[no_mangle]
+pub extern "C" fn bench_propose(p: Plan) -> Proposal
+    ensures { λ r. ⌜ r ≡ proposed p ⌝ }
+    ensures passes { λ r. ⌜ (r .number ≡ 0 → verdict p (r .constraint) .number ≡ 0) ⌝ }
+    ensures in_time { λ r. ⌜ (r .number ≡ 0 → bound p (r .constraint) ≤ greatestFinish (scheduleBy p)) ⌝ }
+{
+    proposal::propose(p)
 }
 
 #[no_mangle]

@@ -112,6 +112,7 @@ fn bare(k: Kept, letter: u8) -> Kept {
         b'S' => start(k),
         b'Q' => state(k),
         b'L' => adopt(k),
+        b'H' => propose(k),
         _ => neither(k),
     }
 }
@@ -347,9 +348,20 @@ fn put_record(mut k: Kept, values: &[u64; fields::MOST]) -> Kept {
 // The list is empty again. The constraint of an accepted one is kept.
 fn adopt(mut k: Kept) -> Kept {
     let a = adoption::adopt_schedule(k.plan, k.schedule);
-    schedules::write_adoption(a);
     let given = a.constraint;
+    schedules::write_order(b"adopt", a.number, a.place, given);
     k.schedule = schedules::none();
+    if a.number == 0 {
+        k.constraint = given;
+    }
+    k
+}
+
+// The constraint of an accepted plan is kept.
+fn propose(mut k: Kept) -> Kept {
+    let a = proposal::propose(k.plan);
+    let given = a.constraint;
+    schedules::write_order(b"propose", a.number, a.place, given);
     if a.number == 0 {
         k.constraint = given;
     }

@@ -21,6 +21,8 @@
 //                    put: one more record of a schedule, four numbers of 32 bits, at most 80 records
 //   L                adopt number place length, then the task and the type of entries 0 to 63 of the constraint that the
 //                    schedule gives: it is kept if accepted. The list of records is empty again
+//   H                propose number place length, then the task and the type of entries 0 to 63 of the constraint that the bench
+//                    proposes for the kept plan: it is kept if accepted
 //
 // Parts: 0 types, 1 units, 2 tasks, 3 best, 4 worst, 5 predecessors, 6 length, 7 an entry's task, 8 an entry's type,
 // 14 deadlines, 15 not-before instants; for R also 9 instant, 10 count of started, 11 finished set, 12 starts, 13 finishes. The

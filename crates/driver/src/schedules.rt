@@ -1,8 +1,8 @@
 // The records of a schedule, put one by one, and what becomes of them.
 use crate::fields;
 use crate::output;
-use adoption::Adoption;
 use adoption::Schedule;
+use plan::Constraint;
 use plan::MOST_TASKS;
 
 // So many are counted. The first 64 are kept: a longer list is refused for its count.
@@ -41,12 +41,11 @@ pub fn with(mut s: Schedule, values: &[u64; fields::MOST]) -> Schedule {
 }
 
 // Number and place, and the constraint: its length and each entry.
-pub fn write_adoption(a: Adoption) {
-    let c = a.constraint;
+pub fn write_order(name: &[u8], number: u32, place: usize, c: Constraint) {
     let order = c.order;
     let chosen = c.chosen;
     let mut out = [0u8; output::WIDTH];
-    let named = output::put_verdict(&mut out, b"adopt", a.number, a.place);
+    let named = output::put_verdict(&mut out, name, number, place);
     let counted = output::put_number(&mut out, named, c.len as u64);
     let end = output::put_entries(&mut out, counted, &order, &chosen);
     output::write_line(&mut out, end);

@@ -7,6 +7,8 @@ pub mod Stores
 pub mod Text
 -- the lines of slacks, and the text that they make
 pub mod SlackLines
+-- the C lines of an order
+pub mod OrderLines
 -- a text or a refusal in a lent buffer
 pub mod Outcomes
 -- no timetable is longer than the longest

@@ -43,13 +43,18 @@ module _ (v : Verdict) (text b : List ℕ) where
           bytes = p .bytes ∙ sets-eq text b 0 (r .fits) ∙ ap (λ (k : ℕ). text ++ drop k b) z ∙ o .bytes;
         }
 
--- what is answered for a simulation and its text, in the words of the promises
+-- what is answered for a result x with a verdict and a text, in the words of the promises
+pub by-result : {X : Type 0} (verdict : X → Verdict) (text : X → List ℕ) {x y : X} {b b₁ : List ℕ} {w : Written} → x ≡ y
+    → Outcome (verdict x) (text x) b w b₁ → (w ≡ answered (verdict y) (text y) (length b)) × (b₁ ≡ bytesAfter (verdict y) (text y) b)
+by-result verdict text {b = b} {b₁} {w} e o =
+    let z = subst (λ x. Outcome (verdict x) (text x) b w b₁) e o in (z .answer, z .bytes)
+
+-- the same of a simulation
 pub by-run : (text : Simulation → List ℕ) {s t : Simulation} {b b₁ : List ℕ} {w : Written} → s ≡ t
     → Outcome (refused (s .number) (s .place)) (text s) b w b₁
     → (w ≡ answered (refused (t .number) (t .place)) (text t) (length b))
     × (b₁ ≡ bytesAfter (refused (t .number) (t .place)) (text t) b)
-by-run text {b = b} {b₁} {w} e o =
-    let x = subst (λ (s : Simulation). Outcome (refused (s .number) (s .place)) (text s) b w b₁) e o in (x .answer, x .bytes)
+by-run = by-result (λ s. refused (s .number) (s .place))
 
 -- ---- the line of a refusal
 

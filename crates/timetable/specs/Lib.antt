@@ -3,4 +3,5 @@ pub mod Decimal
 pub mod Table
 pub mod Refusal
 pub mod SlackTable
+pub mod OrderTable
 pub mod Steps

@@ -1,4 +1,5 @@
-// Writes the timetable of a plan, and its margins, into a lent buffer (document 01, "Timetable and program"; document 02, 2).
+// Writes the timetable of a plan, its margins, and the order that the bench proposes into a lent buffer (document 01, "Timetable and
+// program"; document 02, 2 and 8).
 ghost use mathlib.Core.Path.{_≡_};
 ghost use Prim.Native.Nat.{_≤_};
 ghost use lib.ListN.{length};
@@ -14,9 +15,11 @@ use simulation::Simulation;
 
 mod decimal;
 mod lines;
+mod orders;
 mod refusal;
 mod slacks;
 
+pub use orders::proposal_table;
 pub use refusal::put_refusal;
 pub use slacks::slack_table;
 
@@ -25,6 +28,9 @@ pub const LONGEST_TIMETABLE: usize = 1456;
 
 // Bytes enough for every text of margins.
 pub const SLACK_ROOM: usize = 1935;
+
+// Bytes enough for the C lines of every proposal.
+pub const ORDER_ROOM: usize = 448;
 
 // The bytes written, with number and place 0; or a refusal's number and place.
 #[repr(C)]

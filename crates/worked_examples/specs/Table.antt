@@ -19,9 +19,11 @@ use Rattle.runs.specs.Journal.{Answer, openingAnswer, journal, answers}
 use Rattle.simulation.specs.Simulated.{simulationVerdict}
 use Rattle.adoption.specs.declared.Record.{Record}
 use Rattle.adoption.specs.Schedules.{listed as scheduled, greatestFinish, adopted}
+use Rattle.ranks.specs.Ranks.{ranksOf}
+use Rattle.proposal.specs.Proposals.{scheduleBy, proposed}
 use Rattle.slack.specs.declared.Slacks.{Slacks}
 use Rattle.slack.specs.Margins.{slackAt, slacksOf, leastSlack, greatestSlack}
-use Rattle.worked_examples.specs.PlanA.{none, planOne, planLong, planDue, planFrom, planA, planWarm, fiveEntries, orderA, orderB}
+use Rattle.worked_examples.specs.PlanA.{none, planOne, planLong, planDue, planFrom, planA, planWarm, fiveEntries, orderA, orderB, planLevel, planGap, planMean, planLate, planRing}
 
 -- the starts by task number, and the response
 unfoldable pub run : Plan → Constraint → (ℕ → ℕ) → List ℕ
@@ -113,6 +115,21 @@ withTask4 type start finish = rec 0 0 0 2 ∷ rec 1 0 2 5 ∷ rec 2 1 2 6 ∷ re
 abbrev pub warm : ℕ → List Record
 warm start = rec 0 0 0 2 ∷ rec 1 0 start (start + 3) ∷ rec 2 1 4 8 ∷ rec 3 1 7 10 ∷ rec 4 0 8 10 ∷ []
 
+-- what the bench proposes for a plan of n tasks: number, place and length; the tasks and types; the bound and the schedule's greatest finish
+unfoldable pub proposes : ℕ → Plan → List ℕ
+proposes n p =
+    let a = proposed p in
+    let c = a .constraint in
+    a .number ∷ a .place ∷ c .len ∷ take n (c .order) ++ take n (c .chosen) ++ bound p c ∷ greatestFinish (scheduleBy p) ∷ []
+
+-- a refusal: number, place and length
+unfoldable pub proposesNot : Plan → List ℕ
+proposesNot p = let a = proposed p in a .number ∷ a .place ∷ a .constraint .len ∷ []
+
+-- the starts and the finishes of the schedule, by task number
+unfoldable pub scheduledOn : ℕ → Plan → List ℕ
+scheduledOn n p = let s = scheduleBy p in take n (s .starts) ++ take n (s .finishes)
+
 -- ---- the table: what is computed, and what the documents say that it is
 
 pub record Row : Type 0 where
@@ -122,6 +139,28 @@ pub record Row : Type 0 where
 abbrev pub row : List ℕ → List ℕ → Row
 row computed stated = record { computed = computed; stated = stated }
 
+-- proposals (document 02, 8). Plan A: the ranks, and its own timetable. With N 1 4 task 1 is placed second and starts third
+unfoldable pub proposalTable : List Row
+proposalTable =
+    row (take 6 (ranksOf planA)) (6720 ∷ 5880 ∷ 5040 ∷ 3360 ∷ 1680 ∷ 0 ∷ [])
+    ∷ row (proposes 5 planA) (0 ∷ 0 ∷ 5 ∷ 0 ∷ 1 ∷ 2 ∷ 3 ∷ 4 ∷ 0 ∷ 0 ∷ 1 ∷ 1 ∷ 0 ∷ 8 ∷ 8 ∷ [])
+    ∷ row (scheduledOn 5 planA) (0 ∷ 2 ∷ 2 ∷ 5 ∷ 6 ∷ 2 ∷ 5 ∷ 6 ∷ 8 ∷ 8 ∷ [])
+    ∷ row (proposes 5 planWarm) (0 ∷ 0 ∷ 5 ∷ 0 ∷ 2 ∷ 1 ∷ 3 ∷ 4 ∷ 0 ∷ 1 ∷ 0 ∷ 1 ∷ 0 ∷ 10 ∷ 10 ∷ [])
+    ∷ row (scheduledOn 5 planWarm) (0 ∷ 4 ∷ 2 ∷ 7 ∷ 7 ∷ 2 ∷ 7 ∷ 6 ∷ 10 ∷ 9 ∷ [])
+    -- equal ranks by lower number, and the first found kept: both units of type 0, then type 1
+    ∷ row (proposes 3 planLevel) (0 ∷ 0 ∷ 3 ∷ 0 ∷ 1 ∷ 2 ∷ 0 ∷ 0 ∷ 1 ∷ 4 ∷ 4 ∷ [])
+    -- a gap in a unit stays: task 2 comes after task 1, and the order of the constraint is by start
+    ∷ row (scheduledOn 3 planGap) (0 ∷ 10 ∷ 13 ∷ 10 ∷ 13 ∷ 15 ∷ [])
+    -- the average is over usable types: task 0 goes before task 1
+    ∷ row (take 3 (ranksOf planMean) ++ scheduledOn 3 planMean) (3360 ∷ 2520 ∷ 840 ∷ 0 ∷ 0 ∷ 3 ∷ 4 ∷ 3 ∷ 4 ∷ [])
+    -- task 2 waits for its instant on the first unit, which is free since 5, and not on the second, which is free since 2
+    ∷ row (scheduledOn 3 planLate) (0 ∷ 0 ∷ 6 ∷ 5 ∷ 2 ∷ 7 ∷ [])
+    -- 23: a circle of two tasks, of three; a chain is none. 8 comes first, and covers an arrow from a task to itself
+    ∷ row (proposesNot (planRing 1 (2 ∷ 1 ∷ 0 ∷ [])) ++ proposesNot (planRing 1 (4 ∷ 1 ∷ 2 ∷ []))) (23 ∷ 0 ∷ 0 ∷ 23 ∷ 0 ∷ 0 ∷ [])
+    ∷ row (proposesNot (planRing 1 (0 ∷ 1 ∷ 3 ∷ []))) (0 ∷ 0 ∷ 3 ∷ [])
+    ∷ row (proposesNot (planRing 0 (2 ∷ 1 ∷ 0 ∷ [])) ++ proposesNot (planRing 1 (1 ∷ 0 ∷ 0 ∷ []))) (8 ∷ 0 ∷ 0 ∷ 8 ∷ 0 ∷ 0 ∷ [])
+    ∷ []
+
 -- times, deadlines and not-before instants up to their limits and above, one of an absent task; then what follows from the limits:
 -- the last instant, the least and the greatest margin (document 02, 4 and 6)
 unfoldable pub limitTable : List Row
@@ -130,7 +169,7 @@ limitTable =
     ∷ row (due 65536 0 ++ due 1000000 0 ++ due 1000001 0 ++ due 1000000 1) (0 ∷ 0 ∷ 0 ∷ 0 ∷ 8 ∷ 0 ∷ 8 ∷ 0 ∷ [])
     ∷ row (from 1000000 0 ++ from 1000001 0 ++ from 1000000 1) (0 ∷ 0 ∷ 8 ∷ 0 ∷ 8 ∷ 0 ∷ [])
     ∷ row (lastInstant ∷ over leastSlack ++ over greatestSlack) (65000000 ∷ 0 ∷ 64999999 ∷ 999999 ∷ 0 ∷ [])
-    ∷ []
+    ∷ proposalTable
 
 -- plan A with the line N 1 4 (document 02, 6): its run, where task 2 waits behind task 1 in the order; a live run in which nothing runs
 -- from instant 1 to 3 and task 1 waits only for its instant, ready at 3 and running at 4; plan A's own timetable as a list, in which

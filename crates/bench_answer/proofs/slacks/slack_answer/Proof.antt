@@ -12,7 +12,7 @@ returns : tie.Need-returns
 unfolding slackAnswerTo slackAnswerText
 returns c =
     let i = c .before .before in
-    as-read slackAnswerTo _ (i .before .read .ensures) (unread _ _ _ (omega arith) (i .if1 .taken) (c .put-refusal .ensures))
+    as-read slackAnswerTo _ (i .before .read .ensures) (unread _ _ _ _ (omega arith) (i .if1 .taken) (c .put-refusal .ensures))
 
 returns-2 : tie.Need-returns-2
 unfolding slackAnswerTo slackAnswerText slackTabled slackBufferAfter
@@ -20,7 +20,7 @@ returns-2 c =
     let w = c .before .before .before .before in
     let i = w .before .before in
     as-read slackAnswerTo _ (i .before .read .ensures)
-    (refuses-it _ _ _ (omega arith) (i .if1 .left) (λ q. omega (arith, slack-room _ _ q)) (w .slack-table .ensures)
+    (refuses-it _ _ _ _ (omega arith) (i .if1 .left) (λ q. omega (arith, slack-room _ _ q)) (w .slack-table .ensures)
     (c .before .before .if2 .taken) (c .put-refusal2 .ensures))
 
 returns-3 : tie.Need-returns-3
@@ -29,7 +29,7 @@ returns-3 c =
     let w = c .before .before in
     let i = w .before .before in
     as-read slackAnswerTo _ (i .before .read .ensures)
-    (shows-it _ _ _ (omega arith) (i .if1 .left) (λ q. omega (arith, slack-room _ _ q)) (w .slack-table .ensures)
+    (shows-it _ _ _ _ (omega arith) (i .if1 .left) (λ q. omega (arith, slack-room _ _ q)) (w .slack-table .ensures)
     (c .if2 .left))
 
 pub slack-answer-spec : {M : Type 1} → statement M
