@@ -16,7 +16,7 @@
 extern "C" {
 #endif
 
-#define BENCHPLAN_VERSION 700      /* 0.7.0: ten thousands, hundreds, ones. Structs may differ from one version to the next: compile anew. */
+#define BENCHPLAN_VERSION 800      /* 0.8.0: ten thousands, hundreds, ones. Structs may differ from one version to the next: compile anew. */
 #define BENCH_TASKS 64
 #define BENCH_TYPES 8
 #define BENCH_UNITS 8              /* of each type */
@@ -50,7 +50,8 @@ enum bench_refusal {
     BENCH_TOO_SHORT = 19,     /* a lent buffer is too short */
     BENCH_LIST_TASKS = 20,    /* a schedule does not have one record for each task */
     BENCH_LIST_TIMES = 21,    /* a record has a type that its task cannot use or that the plan does not have, or its finish is not its start plus the worst time */
-    BENCH_LIST_STARTS = 22    /* a record starts before a task that it waits for has finished, before its not-before instant, or when all units of its type are held */
+    BENCH_LIST_STARTS = 22,   /* a record starts before a task that it waits for has finished, before its not-before instant, or when all units of its type are held */
+    BENCH_CIRCLE = 23         /* the arrows lead from a task back to itself */
 };
 
 /* Opaque: hand them on as they came. */
@@ -71,12 +72,13 @@ typedef struct { uint32_t number; size_t place, written; } bench_written;
 typedef struct { uint32_t number; size_t place; bool any; int64_t least; size_t task; int64_t slacks[BENCH_TASKS]; } bench_slacks;
 typedef struct { uint32_t number; size_t place; uint64_t started; bench_state state; } bench_ticked;
 typedef struct { uint32_t number; size_t place; bench_constraint constraint; } bench_adoption;
+typedef struct { uint32_t number; size_t place; bench_constraint constraint; } bench_proposal;
 
 #define BENCH_SIZE(type, bytes) typedef char type##_is_##bytes##_bytes[sizeof(type) == bytes ? 1 : -1]
 BENCH_SIZE(bench_plan, 5168); BENCH_SIZE(bench_constraint, 1032); BENCH_SIZE(bench_state, 6736);
 BENCH_SIZE(bench_text, 6216); BENCH_SIZE(bench_verdict, 16); BENCH_SIZE(bench_run, 536);
 BENCH_SIZE(bench_written, 24); BENCH_SIZE(bench_slacks, 552); BENCH_SIZE(bench_ticked, 6760);
-BENCH_SIZE(bench_record, 16); BENCH_SIZE(bench_adoption, 1048);
+BENCH_SIZE(bench_record, 16); BENCH_SIZE(bench_adoption, 1048); BENCH_SIZE(bench_proposal, 1048);
 
 /* The plan of a text, and its check: 1 to 7, 8 to 11. Every other call that takes a plan checks it first. */
 bench_text bench_read(const uint8_t *text, size_t length);
@@ -95,6 +97,11 @@ bench_slacks bench_margins(bench_plan plan, bench_constraint constraint);
 /* The order of a schedule that was worked out elsewhere with worst times, one record for each task (8, 20, 21, 22): tasks by start, equal starts by
    lower number. The check takes it, and its bound is at most the greatest finish of the records. */
 bench_adoption bench_adopt(bench_plan plan, const bench_record *records, size_t records_length);
+
+/* The order of a schedule that the library works out itself, with worst times and from the plan alone (8, 23): first the tasks with the longest way ahead
+   through the arrows, each on the unit on which it finishes first. The check takes it, and its bound is at most the greatest finish of that schedule. The
+   order of a text plays no part, and the text needs none. */
+bench_proposal bench_propose(bench_plan plan);
 
 /* A live run: the state and the tasks to begin at instant 0, then one instant on, with the reported tasks finished (the first of 12, 13, 16, 14 that
    applies). While a task waits for its not-before instant there may be no task running and none to begin, at start, too. The run is not over: tick on,

@@ -1,5 +1,6 @@
 """Random texts that are read but refused with 11: arrows that lead in circles, or an order that is wrong. What `show explain` says of the order and
-of a circle must be true, and its advice must lead to a text that is taken. Use: circles.py SEED COUNT."""
+of a circle must be true, and its advice must lead to a text that is taken. So with `propose` and `show unproposed`: 23 and a circle wherever there
+is one, whatever the order, and an order if not. Use: circles.py SEED COUNT."""
 import random
 import sys
 from collections import Counter
@@ -7,7 +8,7 @@ from dataclasses import replace
 
 import order
 from plans import MOST_TASKS, random_plan, text_of
-from programs import Wrong, fail, hold, refusal, run, stop
+from programs import Wrong, fail, hold, refusal, run, stop, with_proposal, without_order
 
 # Plans with so many tasks at most are followed until they are taken.
 MOST_FOLLOWED = 12
@@ -68,11 +69,19 @@ def random_case(rng, k):
     return replace(plan, waits=waits, order=order)
 
 
-def explained(text):
+def explained(text, program="benchplan", word="explain"):
     """The number and the place of the refusal, and the lines of the explanation."""
-    output = run("show", "explain", text=text).decode(errors="replace")
+    output = run("show", word, text=text).decode(errors="replace")
     hold(output.endswith("\n") or not output, "the last line has no newline")
-    return *refusal(text), output.splitlines()
+    return *refusal(text, program), output.splitlines()
+
+
+def unproposed(text):
+    """The number and the lines of the explanation, if no order is proposed."""
+    number, place, explanation = explained(text, "propose", "unproposed")
+    hold((number, place) in ((0, 0), (23, 0)), f"propose gives {number} at {place}")
+    hold((number == 0) == (not explanation), f"propose gives {number}, and the explanation is {explanation}")
+    return number, explanation
 
 
 def follow(text):
@@ -89,6 +98,31 @@ def follow(text):
     return steps
 
 
+def break_circles(text, rng):
+    """Takes an arrow of the circle out, again and again, until an order is proposed, which must be right; gives the number of steps."""
+    steps = 0
+    number, explanation = unproposed(text)
+    while number:
+        order.check_unproposed(text, explanation)
+        text = order.without_arrow(text, explanation, rng)
+        number, explanation = unproposed(text)
+        steps += 1
+    given = refusal(with_proposal(text))
+    hold(given == (0, 0), f"the proposed order is refused: {given}")
+    return steps
+
+
+def check_proposal(plan, text, rng):
+    """The circle, which is told of the text without its order and with a part of it, too; gives its length, 0 if there is none."""
+    number, explanation = unproposed(text)
+    hold((number == 23) == order.has_circle(plan.waits), f"propose gives {number}")
+    bare = without_order(text)
+    lines = text.removeprefix(bare).splitlines(keepends=True)
+    for other in bare, bare + b"".join(rng.sample(lines, len(lines) // 2)):
+        hold(unproposed(other) == (number, explanation), "with another order, or with none, something else is said of the proposal")
+    return order.check_unproposed(text, explanation) if number else 0
+
+
 def check(text, seen):
     number, place, explanation = explained(text)
     hold(number == 11, f"benchplan gives {number}, not 11")
@@ -99,16 +133,20 @@ def check(text, seen):
 
 def main(seed, count):
     rng = random.Random(seed)
-    seen, steps = Counter(), 0
+    # What is drawn for the proposals leaves the plans as they are.
+    choices = random.Random(seed)
+    seen, unproposed_lengths, steps = Counter(), Counter(), 0
     for k in range(count):
         plan = random_case(rng, k)
         text = text_of(plan, rng)
         try:
             check(text, seen)
-            steps += follow(text) if len(plan.order) <= MOST_FOLLOWED else 0
+            unproposed_lengths[check_proposal(plan, text, choices)] += 1
+            steps += follow(text) + break_circles(text, choices) if len(plan.order) <= MOST_FOLLOWED else 0
         except Wrong as wrong:
             stop("circles", f"seed {seed}, text {k}", text, wrong)
     missing = [str(case) for case in ["apart", 0, *range(2, MOST_TASKS + 1)] if not seen[case]]
+    missing += [f"{length}, without proposal" for length in [0, *range(2, MOST_TASKS + 1)] if not unproposed_lengths[length]]
     if count >= 300 and missing:
         fail("circles", f"seed {seed}: never met: {', '.join(missing)}")
     print(f"shown: {count - seen[0]} circles and {seen[0]} orders without one told as they are; advice followed {steps} times")

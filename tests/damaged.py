@@ -1,5 +1,6 @@
-"""Random damage to random plans and to tests/mistakes/plan.txt: `show explain` explains what benchplan refuses and nothing else, `show why` and
-`show picture` speak of the other texts, and what is printed can be shown on any terminal. Use: damaged.py SEED COUNT."""
+"""Random damage to random plans and to tests/mistakes/plan.txt: `show explain` explains what benchplan refuses and nothing else, `show unproposed`
+what propose refuses, `show why` and `show picture` speak of the other texts, and what is printed can be shown on any terminal.
+Use: damaged.py SEED COUNT."""
 import random
 import re
 import sys
@@ -9,11 +10,12 @@ from itertools import chain
 import facts
 import forms
 import order
-from plans import MOST_BYTES, random_plan, text_of
-from programs import TOP, Wrong, fail, hold, opening, quoted, refusal, run, same_lines, stop
+from plans import MOST_BYTES, plan_of, random_plan, text_of
+from programs import TOP, Wrong, fail, hold, opening, quoted, refusal, run, same_lines, stop, with_proposal
 
 PLAN = (TOP / "tests/mistakes/plan.txt").read_bytes()
 OTHER_WORDS = [(), *((word,) for word in ["", "x", "-", "e", "explode", "explai", "explained", "Explain", "w", "whynot", "WHY", "pictures", "p"])]
+OTHER_WORDS += [("propose",), ("unpropose",), ("unproposed ",)]
 EXAMINED_FOR_OTHER_WORDS = 20
 LONGEST_LINE = 400
 SHOWN = re.compile(rb"(?:[ -~\n]|\xe2\x87\xa5|\xe2\x86\x92)*")
@@ -124,18 +126,41 @@ def fixed():
         yield b"U\t0\t1\nT\t0\t0\t1\t" + letters[:1] + letters[1:] * 100 + b"\n"
 
 
-def check_explanation(text, number, place):
-    printed = run("show", "explain", text=text)
+def check_explanation(text, word, number, place):
+    """Nothing of a text that is taken. Gives what is printed."""
+    printed = run("show", word, text=text)
     if number == 0:
-        hold(printed == b"", f"benchplan takes the text, and it is explained: {printed[:200]!r}")
-        return
-    hold(printed, f"benchplan gives {number} at {place}, and nothing is explained")
+        hold(printed == b"", f"the text is taken, and `show {word}` prints {printed[:200]!r}")
+        return printed
+    hold(printed, f"the text is refused with {number} at {place}, and `show {word}` prints nothing")
     shown = SHOWN.match(printed)[0]
     hold(shown == printed, f"a byte that cannot be shown: {printed[len(shown) - 40 : len(shown) + 40]!r}")
     explanation = printed.decode()
     is_opened = explanation.startswith(opening(number, place, text)) and explanation.endswith("\n")
-    hold(is_opened, f"benchplan gives {number} at {place}, and the explanation is:\n{explanation}")
+    hold(is_opened, f"the text is refused with {number} at {place}, and `show {word}` prints:\n{explanation}")
     check_lines(text, number, place, explanation.splitlines())
+    return printed
+
+
+def proposal_due(text, number, place):
+    """How propose refuses a text that benchplan refuses so: up to 8 in the same way, then by its arrows alone."""
+    if 1 <= number <= 8:
+        return number, place
+    return (23, 0) if order.has_circle(plan_of(text).waits) else (0, 0)
+
+
+def check_proposal(text, number, place, explanation):
+    """What propose says of a text that benchplan refuses so, with this explanation; gives the number of its refusal."""
+    given, due = refusal(text, "propose"), proposal_due(text, number, place)
+    hold(given == due, f"propose gives {given}, not {due}")
+    if due == (number, place):
+        hold(run("show", "unproposed", text=text) == explanation, f"{due} is explained in two ways")
+    else:
+        check_explanation(text, "unproposed", *due)
+    if due == (0, 0):
+        again = refusal(with_proposal(text))
+        hold(again == (0, 0), f"the proposed order is refused: {again}")
+    return due[0]
 
 
 def others_unformed(text, number):
@@ -149,6 +174,8 @@ def check_lines(text, number, place, lines):
     """The lines of an explanation. None is long, unless it names many tasks."""
     if number == 11:
         order.check(text, place, lines)
+    elif number == 23:
+        order.check_unproposed(text, lines)
     elif number >= 3:
         same_lines(lines, facts.wanted(text, number, place))
         facts.check_advice(text, number, place)
@@ -163,33 +190,36 @@ def check_lines(text, number, place, lines):
 
 
 def check(text, is_examined):
-    """Gives the number of the refusal, and whether an N line is refused."""
+    """Gives the numbers of the refusals of benchplan and of propose, and whether an N line is refused."""
     number, place = refusal(text)
-    check_explanation(text, number, place)
+    explanation = check_explanation(text, "explain", number, place)
+    unproposed = check_proposal(text, number, place, explanation)
     for word in "why", "picture":
         printed = run("show", word, text=text)
         hold((printed == b"") == (number != 0), f"benchplan gives {number}, and `show {word}` prints {len(printed)} bytes")
     for words in OTHER_WORDS if is_examined else []:
         hold(run("show", *words, text=text) == b"", f"show {words} prints something")
-    return number, 2 <= number <= 7 and text.split(b"\n")[place - 1].startswith(b"N")
+    return number, unproposed, 2 <= number <= 7 and text.split(b"\n")[place - 1].startswith(b"N")
 
 
 def main(seed, count):
     rng = random.Random(seed)
-    numbers, at_releases = Counter(), Counter()
+    numbers, unproposed_numbers, at_releases = Counter(), Counter(), Counter()
     texts = chain(fixed(), (random_text(rng) for _ in range(count)))
     for k, text in enumerate(texts):
         try:
-            number, is_release = check(text, k % EXAMINED_FOR_OTHER_WORDS == 0)
+            number, unproposed, is_release = check(text, k % EXAMINED_FOR_OTHER_WORDS == 0)
         except Wrong as wrong:
             stop("damaged", f"seed {seed}, text {k}", text, wrong)
         numbers[number] += 1
+        unproposed_numbers[unproposed] += 1
         at_releases[number] += is_release
     missing = [str(number) for number in range(12) if not numbers[number]]
     missing += [f"{number} at an N line" for number in (2, 3, 5, 6, 7) if not at_releases[number]]
+    missing += [f"{number} of propose" for number in (*range(9), 23) if not unproposed_numbers[number]]
     if count >= 2000 and missing:
         fail("damaged", f"seed {seed}: never met: {', '.join(missing)}")
-    print(f"shown: {numbers.total() - numbers[0]} damaged texts explained, and {numbers[0]} that are taken not")
+    print(f"shown: {numbers.total() - numbers[0]} damaged texts explained, and {numbers[0]} that are taken not; {unproposed_numbers[0]} get an order")
 
 
 main(*map(int, sys.argv[1:]))

@@ -1,5 +1,5 @@
-"""The mistakes of tests/mistakes/edits, each made in plan.txt: what benchplan and `show explain` print must be what the file told has.
-Use: mistakes.py [--write]; with --write the file told is written anew."""
+"""The mistakes of tests/mistakes/edits, each made in plan.txt: what benchplan and `show explain` print, and propose and `show unproposed` where they
+tell of a circle, must be what the file told has. Use: mistakes.py [--write]; with --write the file told is written anew."""
 import os
 import subprocess
 import sys
@@ -22,13 +22,26 @@ def mistakes():
         yield name, done.stdout.split(b"\x01")[0]
 
 
-def told_of(name, text):
-    """The number of the refusal, and what is told: the name, benchplan's line, and the explanation, which must begin as the line says."""
-    number, place = refusal(text)
-    hold(number, f"{name}: is not refused")
-    explanation = run("show", "explain", text=text).decode(errors="replace")
+def explained(name, text, program, word):
+    """The number of a program's refusal, and its line with the explanation, which must begin as the line says; nothing of a text that it takes."""
+    number, place = refusal(text, program)
+    explanation = run("show", word, text=text).decode(errors="replace")
+    if number == 0:
+        hold(not explanation, f"{name}: {program} takes the text, and `show {word}` prints:\n{explanation}")
+        return 0, ""
     hold(explanation.startswith(opening(number, place, text)), f"{name}: {number} at {place} is explained so:\n{explanation}")
-    return number, f"== {name}\nrefused\t{number}\t{place}\n{explanation}"
+    return number, f"refused\t{number}\t{place}\n{explanation}"
+
+
+def told_of(name, text):
+    """The numbers of the refusals, and what is told: the name, benchplan's line with its explanation, and those of propose if it gives 23. Up to 8
+    the two say the same; otherwise propose gives 23 or takes the text."""
+    number, told = explained(name, text, "benchplan", "explain")
+    hold(number, f"{name}: is not refused")
+    unproposed, why_not = explained(name, text, "propose", "unproposed")
+    is_right = why_not == told if number <= 8 else unproposed in (0, 23)
+    hold(is_right, f"{name}: benchplan gives {number}, and of propose is told:\n{why_not}")
+    return {number, unproposed}, f"== {name}\n{told}" + (why_not if unproposed == 23 else "")
 
 
 def sections(told):
@@ -48,17 +61,17 @@ def main(arguments):
     hold(arguments in ([], ["--write"]), "use: mistakes.py [--write]")
     numbers, parts = set(), []
     for name, text in mistakes():
-        number, part = told_of(name, text)
-        numbers.add(number)
+        given, part = told_of(name, text)
+        numbers |= given
         parts.append(part)
-    missing = set(range(1, 12)) - numbers
+    missing = {*range(1, 12), 23} - numbers
     hold(not missing, f"no mistake is refused with {sorted(missing)}")
     told = "".join(parts)
     if arguments:
         TOLD.write_text(told)
     stored = TOLD.read_text()
     hold(told == stored, next(differences(told, stored), "the order of the mistakes is another one; --write writes it"))
-    print(f"shown: {len(parts)} mistakes, of every refusal from 1 to 11, explained as stored")
+    print(f"shown: {len(parts)} mistakes, of every refusal from 1 to 11 and 23, explained as stored")
 
 
 try:

@@ -1,14 +1,17 @@
-"""What the explanation of refusal 11 must be: the order, and the circle if the arrows lead in one; and what its advice makes of the text."""
+"""What the explanation of refusals 11 and 23 must be: the order, and the circle if the arrows lead in one; the circle alone. And what the advice
+makes of the text."""
 import re
+from dataclasses import replace
 
 from plans import plan_of
 from programs import hold, numbered, opening, quoted, refusal, same_lines
 
-CIRCLE = re.compile(r"  (the|besides, other) arrows lead in a circle, so that no order is right: (\d+(?: → \d+)+)")
+CIRCLE = re.compile(r"(the|besides, other) arrows lead in a circle, so that no order is right: (\d+(?: → \d+)+)")
 TURNED = "; or, if it should be the other way round, exchange the two numbers of the A line"
 REMEDY = re.compile(rf"  move line (\d+) down, below line (\d+){TURNED}")
 AGAINST = " (against the order)"
 MARKED = re.compile(r"  line (\d+): .*" + re.escape(AGAINST))
+QUOTED = re.compile(r"  line (\d+): A.*")
 
 
 def has_circle(waits):
@@ -79,19 +82,24 @@ def check_steps(plan, task, circle):
     hold(len(others) == way_round(plan.waits, first), f"there is a shorter circle through task {first} than {names}")
 
 
-def check_circle(plan, text, task, printed):
-    """The line with the circle, the advice, and the arrows of the circle; gives its length."""
-    found = CIRCLE.fullmatch(printed[0]) if printed else None
+def arrow_lines(plan, text, circle):
+    """The lines of the arrows of a circle; those against the order, if there is one, are marked."""
+    standing = {task: k for k, task in enumerate(plan.order)}
+    for a, b in zip(circle, circle[1:]):
+        is_against = standing.get(b, 0) < standing.get(a, 0)
+        yield quoted(text, place_of(text, "A", a, b), AGAINST if is_against else "")
+
+
+def check_circle(plan, text, task, begin, printed):
+    """The line with the circle, which begins so, the advice, and the arrows of the circle; gives its length."""
+    is_begun = printed and printed[0].startswith(begin)
+    found = CIRCLE.fullmatch(printed[0].removeprefix(begin)) if is_begun else None
     hold(found, f"the arrows lead in a circle, and what follows does not show it: {printed}")
     circle = list(map(int, found[2].split(" → ")))
     hold((found[1] == "the") == (circle[0] == task), f"the circle is that of the refused task, or another one: {printed[0]}")
     check_steps(plan, task, circle)
     advice = "two arrows out" if len(circle) == 3 else "arrows out, or exchange its two numbers"
-    arrows = []
-    for a, b in zip(circle, circle[1:]):
-        is_against = plan.order.index(b) < plan.order.index(a)
-        arrows.append(quoted(text, place_of(text, "A", a, b), AGAINST if is_against else ""))
-    same_lines(printed[1:], [f"  take one of these {advice}:", *arrows])
+    same_lines(printed[1:], [f"  take one of these {advice}:", *arrow_lines(plan, text, circle)])
     return len(circle) - 1
 
 
@@ -131,6 +139,22 @@ def check(text, position, explanation):
     rest = explanation[len(wanted) :]
     check_advice(text, explanation, position, task, later)
     if has_circle(plan.waits):
-        return check_circle(plan, text, task, rest), is_on_circle
+        return check_circle(plan, text, task, "  ", rest), is_on_circle
     hold(not rest, f"the arrows lead in no circle, and {rest} follows")
     return 0, False
+
+
+def check_unproposed(text, explanation):
+    """All lines of the explanation of refusal 23: a circle of the lowest task that is on one, and no word of the order; gives its length."""
+    plan = replace(plan_of(text), order=[])
+    hold(has_circle(plan.waits), f"the arrows lead in no circle, and {explanation} is said")
+    lowest = min(task for task in plan.waits if way_round(plan.waits, task))
+    return check_circle(plan, text, lowest, opening(23, 0, text), explanation)
+
+
+def without_arrow(text, explanation, rng):
+    """The text after the advice of refusal 23: one of the quoted arrows is taken out."""
+    places = [int(found[1]) for found in map(QUOTED.fullmatch, explanation) if found]
+    hold(places, "no arrow is quoted")
+    out = rng.choice(places)
+    return joined(line for k, line in enumerate(text.split(b"\n")[:-1], 1) if k != out)

@@ -8,6 +8,8 @@ import subprocess
 import sys
 from pathlib import Path
 
+from programs import examples
+
 TOP = Path(__file__).resolve().parent.parent
 DOCS = TOP / "docs"
 CRATES = TOP / "crates"
@@ -78,7 +80,7 @@ def check_theorems():
     """Each formal name of METHOD is declared somewhere."""
     text = read(DOCS / "METHOD.md")
     theorems = re.split(r"\*\*Theorem \d+ ", text)[1:]
-    must(len(theorems) == 14, "METHOD: the theorems")
+    must(len(theorems) == 15, "METHOD: the theorems")
     for formal in re.findall(r"\*Formal:\*(.*?)\n\n", text, re.S):
         for name in re.findall(r"`([a-zA-Z-]+)`", formal):
             if name != "ensures":
@@ -105,12 +107,16 @@ def check_schedule(guide):
 
 
 def check_guide():
-    """What the programs print stands in the guide, with its sign for tabs."""
+    """What the programs print stands in the guide, with its sign for tabs, and so does each use of the command."""
     guide = read(DOCS / "USER-GUIDE.md")
     must("\t" not in guide, "the guide has a tab that is not its sign")
-    for plan in sorted(set((TOP / "examples").glob("*.txt")) - {TOP / "examples/deadlines.txt"}):
-        shown = output(["benchplan"], plan.read_bytes()).replace("\t", "⇥")
-        must(shown in guide, f"guide: the timetable of {plan.name}")
+    for use in re.findall(r"benchplan (?:\w+ )?\[FILE\]", read(TOP / "benchplan")):
+        must(f"./{use}" in guide, f"guide: {use}")
+    for name, plan in examples():
+        shown = output(["benchplan"], plan).replace("\t", "⇥")
+        must(name == "deadlines.txt" or shown in guide, f"guide: the timetable of {name}")
+    proposed = output(["propose"], (TOP / "examples/three-cores.txt").read_bytes()).replace("\t", "⇥")
+    must(proposed in guide, "guide: the order that is proposed for three-cores.txt")
     for plan in ("deadlines.txt", "fluorescence.txt"):
         shown = output(["margins"], (TOP / "examples" / plan).read_bytes()).replace("\t", "⇥")
         must(shown in guide, f"guide: the margins of {plan}")

@@ -7,7 +7,7 @@ from collections import Counter
 from dataclasses import replace
 
 from plans import LONGEST_TIME, MOST_TASKS, MOST_TYPES, MOST_UNITS, Plan, plan_of, random_plan, row_of_tasks, text_of, worst_run
-from programs import TOP, Wrong, fail, hold, listed, run, same_lines, stop
+from programs import Wrong, examples, fail, hold, listed, run, same_lines, stop
 
 # The sheet, in tenths of a pixel: where the axis begins and ends, and how wide the sheet is.
 LEFT, RIGHT, SHEET = 1150, 11150, 11750
@@ -459,8 +459,7 @@ def fixed():
     yield "one task", text_of(row_of_tasks(1, 1, 1))
     yield "one task that is late", text_of(replace(row_of_tasks(1, 1, LONGEST_TIME), deadlines={0: 1}))
     yield "every arrow", text_of(replace(full, waits={task: set(range(task)) for task in full.order}))
-    for path in sorted(TOP.glob("examples/*.txt")):
-        yield path.name, path.read_bytes()
+    yield from examples()
 
 
 def main(seed, count):

@@ -32,11 +32,28 @@ def run(name, *words, text):
     return done.stdout
 
 
-def refusal(text):
-    """The number and the place by which benchplan refuses a text; 0 and 0 if it is taken."""
-    answer = run("benchplan", text=text).split()
-    hold(answer, "benchplan prints nothing")
+def refusal(text, program="benchplan"):
+    """The number and the place by which a program refuses a text; 0 and 0 if it is taken."""
+    answer = run(program, text=text).split()
+    hold(answer, f"{program} prints nothing")
     return (int(answer[1]), int(answer[2])) if answer[0] == b"refused" else (0, 0)
+
+
+def without_order(text):
+    """A text that can be read, without its C lines."""
+    return b"".join(line for line in text.splitlines(keepends=True) if not line.startswith(b"C"))
+
+
+def with_proposal(text):
+    """The plan of a text with the order that propose gives."""
+    return without_order(text) + run("propose", text=text)
+
+
+def examples():
+    """By name, the plan texts of examples/, each with an order: its own, or the proposed one if it has none."""
+    for path in sorted(TOP.glob("examples/*.txt")):
+        text = path.read_bytes()
+        yield path.name, with_proposal(text) if without_order(text) == text else text
 
 
 def opening(number, place, text):

@@ -5,7 +5,7 @@ from collections import Counter
 from dataclasses import replace
 
 from plans import LATEST_RELEASE, MOST_TASKS, plan_of, random_plan, row_of_tasks, text_of, worst_run
-from programs import TOP, Wrong, fail, hold, numbered, run, same_lines, stop
+from programs import Wrong, examples, fail, hold, numbered, run, same_lines, stop
 
 # What a long test must have met.
 CASES = ["nothing", "task", "tasks", "the unit", "both units", "all units", "several freed", "order", "order alone", "link by order", "several last"]
@@ -181,8 +181,7 @@ def fixed():
     two = replace(row_of_tasks(2, 2, 1), times={(0, 0): (1, 1), (1, 0): (1, 3)})
     yield "two tasks, the first not before 20", text_of(replace(two, releases={0: 20})), 23
     yield "two tasks, both not before 20", text_of(replace(two, releases={0: 20, 1: 20})), 23
-    for path in sorted(TOP.glob("examples/*.txt")):
-        yield path.name, path.read_bytes(), None
+    yield from ((*example, None) for example in examples())
 
 
 def main(seed, count):

@@ -100,6 +100,14 @@ pub struct Adoption {
     constraint: Constraint,
 }
 
+#[repr(C)]
+#[derive(PartialEq)]
+pub struct Proposal {
+    number: u32,
+    place: usize,
+    constraint: Constraint,
+}
+
 #[link(name = "benchplan", kind = "static")]
 extern "C" {
     fn bench_read(text: *const u8, length: usize) -> Text;
@@ -107,8 +115,10 @@ extern "C" {
     fn bench_simulate(
         plan: Plan, constraint: Constraint, times: *const u32, times_length: usize,
     ) -> Run;
+    fn bench_bound(plan: Plan, constraint: Constraint) -> Run;
     fn bench_margins(plan: Plan, constraint: Constraint) -> Slacks;
     fn bench_adopt(plan: Plan, records: *const Record, records_length: usize) -> Adoption;
+    fn bench_propose(plan: Plan) -> Proposal;
     fn bench_replay(
         plan: Plan, constraint: Constraint, reports: *const u64, reports_length: usize,
         numbers: *mut u32, numbers_length: usize, places: *mut usize, places_length: usize,
@@ -141,6 +151,11 @@ impl Input {
                 chosen: constraint.kind.map(|k| k as usize),
             },
         }
+    }
+
+    /// The same plan with the proposed constraint.
+    pub fn with(&self, proposal: &Proposal) -> Input {
+        Input { plan: self.plan, constraint: proposal.constraint }
     }
 }
 
@@ -182,6 +197,12 @@ impl Slacks {
 impl Adoption {
     pub fn accepted(input: Input) -> Adoption {
         Adoption { number: 0, place: 0, constraint: input.constraint }
+    }
+}
+
+impl Proposal {
+    pub fn accepted(input: Input) -> Proposal {
+        Proposal { number: 0, place: 0, constraint: input.constraint }
     }
 }
 
@@ -232,12 +253,20 @@ pub fn simulate(i: &Input, times: &[u32]) -> Run {
     unsafe { bench_simulate(i.plan, i.constraint, times.as_ptr(), times.len()) }
 }
 
+pub fn bound(i: &Input) -> Run {
+    unsafe { bench_bound(i.plan, i.constraint) }
+}
+
 pub fn margins(i: &Input) -> Slacks {
     unsafe { bench_margins(i.plan, i.constraint) }
 }
 
 pub fn adopt(i: &Input, records: &[Record]) -> Adoption {
     unsafe { bench_adopt(i.plan, records.as_ptr(), records.len()) }
+}
+
+pub fn propose(i: &Input) -> Proposal {
+    unsafe { bench_propose(i.plan) }
 }
 
 pub fn replay(i: &Input, reports: &[u64], answers: &mut Answers) -> Ticked {

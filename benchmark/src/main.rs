@@ -1,5 +1,5 @@
 //! The proved code against the rival's fast forms, measured on the same inputs; with
-//! `--answers` nothing is measured.
+//! `--answers` nothing is measured, and with `--proposals` only the bounds of proposals are.
 //!
 //! Before a measurement both must give the same answers on its input. No call
 //! can be left out: inputs and answers go through `black_box`, nothing is
@@ -8,8 +8,9 @@ mod calls;
 mod measure;
 mod plans;
 mod program;
+mod proposals;
 
-use calls::{Adoption, Answers, Input, Record, Run, Slacks, Text, Ticked, Verdict};
+use calls::{Adoption, Answers, Input, Proposal, Record, Run, Slacks, Text, Ticked, Verdict};
 use plans::Shape;
 use program::Program;
 use rival::fast;
@@ -119,6 +120,17 @@ fn adopt(table: &mut Table, name: &str, shape: &Shape) {
     table.line(name, || measure::by_turns(ours, rivals), TWICE);
 }
 
+/// The constraint of the input plays no part.
+fn propose(table: &mut Table, name: &str, shape: &Shape, target: Option<f64>) {
+    let (plan, constraint) = shape.plan();
+    let input = Input::new(&plan, &constraint);
+    let found = fast::propose(&plan).expect("a sound plan");
+    assert_same(name, calls::propose(&input), Proposal::accepted(Input::new(&plan, &found)));
+    let ours = || calls::propose(black_box(&input));
+    let rivals = || fast::propose(black_box(&plan));
+    table.line(name, || measure::by_turns(ours, rivals), target);
+}
+
 /// The answers are lent again and again and are not cleared in between: every
 /// replay writes every entry, as the comparison shows.
 fn replay(table: &mut Table, name: &str, shape: &Shape) {
@@ -215,8 +227,11 @@ fn late_releases(table: &mut Table, name: &str, shape: &Shape) {
 fn main() {
     let words: Vec<String> = std::env::args().skip(1).collect();
     let timed = words.is_empty();
+    if words == ["--proposals"] {
+        return proposals::print();
+    }
     if !timed && words != ["--answers"] {
-        eprintln!("usage: benchmark [--answers]");
+        eprintln!("usage: benchmark [--answers | --proposals]");
         std::process::exit(2);
     }
     let mut table = Table { timed, missed: Vec::new() };
@@ -233,6 +248,9 @@ fn main() {
     margins(t, "margins of 64 tasks, few arrows", &plans::FEW_ARROWS);
     adopt(t, "adopt a schedule of the largest plan", &plans::LARGEST);
     adopt(t, "adopt one of 64 tasks, few arrows", &plans::FEW_ARROWS);
+    propose(t, "propose for the largest plan", &plans::LARGEST, TWICE);
+    propose(t, "propose for 64 tasks, few arrows", &plans::FEW_ARROWS, None);
+    propose(t, "propose for 64 tasks, no arrow", &plans::NO_ARROW, TWICE);
     replay(t, "replay a chain", &plans::CHAIN);
     replay(t, "replay all at once", &plans::WIDE);
     replay(t, "replay a mixture", &plans::MIXED);
@@ -244,6 +262,10 @@ fn main() {
     t.head(["simulation, ours against ours", &format!("of {LATEST_RELEASE}"), "of 0", "", ""]);
     late_releases(t, "not before, the largest plan", &plans::LARGEST);
     late_releases(t, "not before, few arrows", &plans::FEW_ARROWS);
+    if !timed {
+        let bounds = proposals::bounds().len();
+        println!("the same answers: {bounds} proposals and bounds");
+    }
     for missed in &table.missed {
         println!("target missed: {missed}");
     }

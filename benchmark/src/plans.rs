@@ -80,6 +80,9 @@ pub const FEW_ARROWS: Shape = Shape {
     arrow: |from, to| from + 9 == to,
 };
 
+/// The tasks wait for units alone, and each may take any of them.
+pub const NO_ARROW: Shape = Shape { arrow: |_, _| false, ..LARGEST };
+
 /// As large as the largest, for times from 1 to the longest.
 pub const ANY_TIMES: Shape = Shape { times: |_, _| (1, LONGEST_TIME), ..LARGEST };
 pub const ANY_TIMES_FEW_ARROWS: Shape = Shape { times: |_, _| (1, LONGEST_TIME), ..FEW_ARROWS };

@@ -6,9 +6,9 @@
     state, begin = plan.start()
     state, begin = state.tick({0})
 
-A refusal is the exception Refused, with `number`, `place` and the user guide's sentence. Plans and states never change: a refused tick
-leaves the caller with the state that it had. Build the shared object with ./build-library. Where it is not in this checkout's
-target/lib, the environment variable BENCHPLAN_LIBRARY is its path.
+For a text without C lines, `benchplan.read(text).propose()` is the plan with an order. A refusal is the exception Refused, with `number`,
+`place` and the user guide's sentence. Plans and states never change: a refused tick leaves the caller with the state that it had. Build the
+shared object with ./build-library. Where it is not in this checkout's target/lib, the environment variable BENCHPLAN_LIBRARY is its path.
 """
 import ctypes
 import operator
@@ -17,7 +17,7 @@ import pathlib
 from collections import namedtuple
 from ctypes import POINTER, byref, c_bool, c_int64, c_size_t, c_uint8, c_uint32, c_uint64
 
-VERSION = 700
+VERSION = 800
 TASKS = 64
 TIMETABLE_MOST = 1456
 ANSWER_MOST = 1456
@@ -44,6 +44,7 @@ SENTENCES = {
     20: "a schedule does not have one record for each task",
     21: "a record has a type that its task cannot use or that the plan does not have, or its finish is not its start plus the worst time",
     22: "a record starts before a task that it waits for has finished, before its not-before instant, or when all units of its type are held",
+    23: "the arrows lead from a task back to itself",
 }
 
 
@@ -108,6 +109,10 @@ class _Adoption(ctypes.Structure):
     _fields_ = _VERDICT + [("constraint", _Constraint)]
 
 
+class _Proposal(ctypes.Structure):
+    _fields_ = _VERDICT + [("constraint", _Constraint)]
+
+
 _BYTES = [POINTER(c_uint8), c_size_t]
 _TIMES = [POINTER(c_uint32), c_size_t]
 _SETS = [POINTER(c_uint64), c_size_t]
@@ -123,6 +128,7 @@ _CALLS = {
     "bench_worst_timetable": (_Written, _PLAN + _BYTES),
     "bench_margins": (_Slacks, _PLAN),
     "bench_adopt": (_Adoption, [_Plan] + _RECORDS),
+    "bench_propose": (_Proposal, [_Plan]),
     "bench_start": (_Ticked, _PLAN),
     "bench_tick": (_Ticked, [_State, c_uint64]),
     "bench_replay": (_Ticked, _PLAN + _SETS + _TIMES + _PLACES + _SETS),
@@ -218,7 +224,8 @@ def answer(text):
 
 
 class Plan:
-    """A plan with its constraint, as `read` and `adopt` give it. Every call but `adopt` may refuse with 8 to 11, as `check` does."""
+    """A plan with its constraint, as `read`, `adopt` and `propose` give it. Every call but `adopt` and `propose` may refuse with 8 to 11, as
+    `check` does."""
 
     def __init__(self, plan, constraint):
         self._plan, self._constraint = plan, constraint
@@ -262,6 +269,13 @@ class Plan:
         whole numbers from 0 to 4294967295 (ValueError); 20, 21, 22, and no other but 8. The check takes the plan that comes back, and its bound
         is at most the records' greatest finish."""
         reply = _accepted(_library.bench_adopt(self._plan, *_lent_records(records)))
+        return Plan(self._plan, reply.constraint)
+
+    def propose(self):
+        """The same plan with an order that the library works out itself, from the plan alone: the C lines of its text play no part, and there need be
+        none; 23, and no other but 8. The check takes the plan that comes back, and its bound is at most the greatest finish of the schedule from
+        which the order comes."""
+        reply = _accepted(_library.bench_propose(self._plan))
         return Plan(self._plan, reply.constraint)
 
     def start(self):

@@ -180,16 +180,26 @@ static bool do_record(const uint64_t *values) {
     return true;
 }
 
+/* The constraint of an accepted answer is kept. */
+static void do_order(const char *word, uint32_t refusal, size_t place, bench_constraint given) {
+    say(word, refusal, place);
+    number(given.length);
+    for (int i = 0; i < BENCH_TASKS; i++) {
+        number(given.task[i]);
+        number(given.unit_type[i]);
+    }
+    if (!refusal) constraint = given;
+}
+
 static void do_adopt(void) {
     bench_adoption a = bench_adopt(plan.words, records, record_count);
-    say("adopt", a.number, a.place);
-    number(a.constraint.length);
-    for (int i = 0; i < BENCH_TASKS; i++) {
-        number(a.constraint.task[i]);
-        number(a.constraint.unit_type[i]);
-    }
-    if (!a.number) constraint = a.constraint;
+    do_order("adopt", a.number, a.place, a.constraint);
     record_count = 0;
+}
+
+static void do_propose(void) {
+    bench_proposal p = bench_propose(plan.words);
+    do_order("propose", p.number, p.place, p.constraint);
 }
 
 static bool with_lists(char letter, const uint64_t *v, size_t count) {
@@ -216,6 +226,7 @@ static bool obey(char letter, const uint64_t *v, size_t count) {
     case 'P': return count == 3 && put(plan_slot(v[0], &plan.fields, &constraint), v[1], v[2]);
     case 'E': return count == 4 && do_record(v);
     case 'L': return count == 0 && (do_adopt(), true);
+    case 'H': return count == 0 && (do_propose(), true);
     case 'R': return count == 3 && put(state_slot(v[0]), v[1], v[2]);
     default: return with_lists(letter, v, count);
     }

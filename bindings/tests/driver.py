@@ -204,14 +204,22 @@ class Session:
         self.records.append(times_of(record))
         self.say("put")
 
-    def adopt(self):
-        def call():
-            self.plan = self.plan.adopt(self.records)
+    def order(self, word, call):
+        """The order of the plan that a call gives, which is kept."""
+
+        def constraint():
+            self.plan = call()
             c = self.fields()[1]
             return *c.length, *each(c.task, c.type)
 
-        self.answer("adopt", call, 1 + 2 * TASKS)
+        self.answer(word, constraint, 1 + 2 * TASKS)
+
+    def adopt(self):
+        self.order("adopt", lambda: self.plan.adopt(self.records))
         self.records = []
+
+    def propose(self):
+        self.order("propose", self.plan.propose)
 
     def put_plan(self, part, index, value):
         put(array_of(part, *self.fields()), index, value)
@@ -237,6 +245,7 @@ COMMANDS = {
     b"Z": (range(LONGEST_LIST + 1), Session.replay),
     b"E": ([4], Session.put_record),
     b"L": ([0], Session.adopt),
+    b"H": ([0], Session.propose),
     b"P": ([3], Session.put_plan),
     b"R": ([3], Session.put_state),
 }

@@ -166,10 +166,14 @@ static void check_runs(void) {
     HOLDS(s.slacks[0] == 0 && s.slacks[1] == 4 && s.slacks[3] == -2 && s.slacks[63] == 0);
 }
 
+static bool ordered_so(const bench_constraint *c, const size_t *task, const size_t *type) {
+    return c->length == 5 && c->task[63] == 0 && c->unit_type[63] == 0 && !memcmp(c->task, task, 5 * sizeof *task)
+        && !memcmp(c->unit_type, type, 5 * sizeof *type);
+}
+
 static bool adopted_so(const bench_record *records, const size_t *task, const size_t *type) {
     bench_adoption a = bench_adopt(plan.words, records, 5);
-    return a.number == 0 && a.place == 0 && a.constraint.length == 5 && a.constraint.task[63] == 0 && a.constraint.unit_type[63] == 0
-        && !memcmp(a.constraint.task, task, 5 * sizeof *task) && !memcmp(a.constraint.unit_type, type, 5 * sizeof *type);
+    return a.number == 0 && a.place == 0 && ordered_so(&a.constraint, task, type);
 }
 
 /* Schedules: each field of a record decides once. */
@@ -199,6 +203,28 @@ static void check_schedules(void) {
     HOLDS(a.number == BENCH_LIST_STARTS && a.place == 1);
     plan.fields.tasks = 0;
     HOLDS(bench_adopt(plan.words, r, 5).number == BENCH_PLAN_RULE);
+}
+
+/* Proposals: the first and the last entry of an order, one that is not that of the numbers, and each refusal. */
+static void check_proposals(void) {
+    static const size_t task[5] = { 1, 0, 3, 2, 4 }, type[5] = { 0, 0, 1, 1, 0 };
+    begin(2, BENCH_TASKS);
+    for (size_t k = 0; k < 2; k++) units(k, 1);
+    for (size_t t = 0; t < BENCH_TASKS; t++) times(t, t % 2, 1, 2);
+    for (size_t t = 1; t < BENCH_TASKS; t++) arrow(t - 1, t);
+    for (size_t t = 0; t < BENCH_TASKS; t++) choice(t, t % 2);
+    bench_proposal p = bench_propose(plan.words);
+    HOLDS(p.number == 0 && p.place == 0 && !memcmp(&p.constraint, &constraint, sizeof constraint));
+    plan_a();
+    plan.fields.worst[1 * BENCH_TYPES] = 9;
+    p = bench_propose(plan.words);
+    HOLDS(p.number == 0 && p.place == 0 && ordered_so(&p.constraint, task, type));
+    HOLDS(bench_check(plan.words, p.constraint).number == 0 && bench_bound(plan.words, p.constraint).response == 17);
+    plan.fields.predecessors[0] = (uint64_t)1 << 4;
+    p = bench_propose(plan.words);
+    HOLDS(p.number == BENCH_CIRCLE && p.place == 0 && p.constraint.length == 0 && p.constraint.task[0] == 0);
+    plan.fields.tasks = 0;
+    HOLDS(bench_propose(plan.words).number == BENCH_PLAN_RULE);
 }
 
 /* Written bytes, and those after them, which stay. */
@@ -304,6 +330,7 @@ void bound_to(void *, bench_plan, bench_constraint) __asm__("bench_bound");
 void timetable_to(void *, bench_plan, bench_constraint, uint8_t *, size_t) __asm__("bench_worst_timetable");
 void margins_to(void *, bench_plan, bench_constraint) __asm__("bench_margins");
 void adopt_to(void *, bench_plan, const bench_record *, size_t) __asm__("bench_adopt");
+void propose_to(void *, bench_plan) __asm__("bench_propose");
 void start_to(void *, bench_plan, bench_constraint) __asm__("bench_start");
 void tick_to(void *, bench_state, uint64_t) __asm__("bench_tick");
 #ifdef __cplusplus
@@ -345,6 +372,8 @@ static void check_sizes(void) {
     HOLDS(fills(sizeof(bench_slacks)));
     adopt_to(untouched(), plan.words, &record, 1);
     HOLDS(fills(sizeof(bench_adoption)));
+    propose_to(untouched(), plan.words);
+    HOLDS(fills(sizeof(bench_proposal)));
     start_to(untouched(), plan.words, constraint);
     HOLDS(fills(sizeof(bench_ticked)));
     tick_to(untouched(), state, 1);
@@ -364,6 +393,7 @@ static void check_widths(void) {
     WIDTH(bench_slacks, task, 8);
     WIDTH(bench_ticked, number, 4);
     WIDTH(bench_adoption, number, 4);
+    WIDTH(bench_proposal, number, 4);
     WIDTH(state_fields, instant, 4);
 }
 
@@ -410,6 +440,7 @@ int main(void) {
     check_verdicts();
     check_runs();
     check_schedules();
+    check_proposals();
     check_texts();
     check_ticks();
     check_releases();

@@ -55,6 +55,13 @@ for odd in (0, 0, 0), (0, 0, 0, 2, 2), (0, 0, 0.0, 2), "0002", (0, 0, None, 2), 
     assert raises(TypeError, plan.adopt, [odd])
 assert refusal_of(benchplan.read(b"").adopt, schedule) == (8, 0)
 
+# Proposals: an order for a text without C lines; those of a text play no part. The plan that was asked stays as it was.
+bare = text[: text.index(b"C")]
+asked = benchplan.read(bare + b"C\t4\t1\n")
+assert refusal_of(asked.check) == (9, 1) and asked.propose().order == benchplan.read(bare).propose().order == plan.order
+assert asked.order == [(4, 1)] and plan.propose().bound() == plan.bound() and adopted.propose().bound() == plan.bound()
+assert refusal_of(benchplan.read(bare + b"A\t4\t0\n").propose) == (23, 0) and refusal_of(benchplan.read(b"").propose) == (8, 0)
+
 # Rooms: 19 tells the bytes that are needed.
 table = plan.worst_timetable()
 assert table.endswith(b"R\t8\n") and plan.timetable(worst, len(table)) == table

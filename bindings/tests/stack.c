@@ -1,15 +1,16 @@
-/* The stack that each call takes, with its arguments and its answer, on the largest plan: painted, called, and looked at. Fails if one takes
-   more than BENCH_STACK_MOST. */
+/* The stack that each call takes, with its arguments and its answer, on the largest plan and one with deep ways: painted, called, and looked at.
+   Fails if one takes more than BENCH_STACK_MOST. */
 #include "benchplan.h"
 #include <stdio.h>
 #include <string.h>
 #include <ucontext.h>
 
-enum { SIZE = 1 << 20, PAINT = 0xA5, TICKS = 80 };
+enum { SIZE = 1 << 20, PAINT = 0xA5, TICKS = 80, ENDS = 31 };
 
 static uint8_t stack[SIZE], text[BENCH_TEXT_MOST], buffer[BENCH_ANSWER_MOST];
 static size_t length;
 static bench_text plan;
+static bench_plan deep;
 static bench_ticked run;
 static uint32_t times[BENCH_TASKS], numbers[TICKS];
 static uint64_t reports[TICKS], sets[TICKS];
@@ -30,6 +31,18 @@ static void write_text(void) {
     length = (size_t)(at - (char *)text);
 }
 
+/* Arrows lead from each of the upper tasks to the next and to all of the lower ones, where they end: of what comes after a task, the next one is the
+   last to be asked what comes after it. */
+static void write_deep_text(void) {
+    char *at = (char *)text + sprintf((char *)text, "U\t0\t1\n");
+    for (int t = 0; t < BENCH_TASKS; t++) at += sprintf(at, "T\t%d\t0\t1\t1\n", t);
+    for (int from = ENDS; from < BENCH_TASKS; from++) {
+        for (int to = 0; to < ENDS; to++) at += sprintf(at, "A\t%d\t%d\n", from, to);
+        if (from + 1 < BENCH_TASKS) at += sprintf(at, "A\t%d\t%d\n", from, from + 1);
+    }
+    length = (size_t)(at - (char *)text);
+}
+
 static void nothing(void) { sink = 0; }
 static void do_read(void) { bench_text a = bench_read(text, length); sink = a.number; plan = a; }
 static void do_check(void) { bench_verdict a = bench_check(plan.plan, plan.constraint); sink = a.number; }
@@ -45,6 +58,8 @@ static void do_worst_timetable(void) {
 }
 static void do_margins(void) { bench_slacks a = bench_margins(plan.plan, plan.constraint); sink = a.number; }
 static void do_adopt(void) { bench_adoption a = bench_adopt(plan.plan, records, BENCH_TASKS); sink = a.number; }
+static void do_propose(void) { bench_proposal a = bench_propose(plan.plan); sink = a.number; }
+static void do_propose_deep(void) { bench_proposal a = bench_propose(deep); sink = a.number; }
 static void do_start(void) { bench_ticked a = bench_start(plan.plan, plan.constraint); sink = a.number; run = a; }
 static void do_tick(void) { bench_ticked a = bench_tick(run.state, 1); sink = a.number; }
 static void do_replay(void) {
@@ -72,9 +87,12 @@ int main(void) {
     static const struct { const char *name; void (*call)(void); } calls[] = {
         { "nothing", nothing }, { "bench_read", do_read }, { "bench_check", do_check }, { "bench_simulate", do_simulate },
         { "bench_bound", do_bound }, { "bench_timetable", do_timetable }, { "bench_worst_timetable", do_worst_timetable },
-        { "bench_margins", do_margins }, { "bench_adopt", do_adopt }, { "bench_start", do_start }, { "bench_tick", do_tick }, { "bench_replay", do_replay },
+        { "bench_margins", do_margins }, { "bench_adopt", do_adopt }, { "bench_propose", do_propose },
+        { "bench_propose with deep ways", do_propose_deep }, { "bench_start", do_start }, { "bench_tick", do_tick }, { "bench_replay", do_replay },
         { "bench_answer", do_answer } };
     size_t most = 0;
+    write_deep_text();
+    deep = bench_read(text, length).plan;
     write_text();
     for (int t = 0; t < BENCH_TASKS; t++) times[t] = 1;
     for (uint32_t t = 0; t < BENCH_TASKS; t++)

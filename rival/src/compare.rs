@@ -2,6 +2,7 @@
 use crate::driver;
 use crate::generate;
 use crate::margins;
+use crate::propose;
 use crate::random::Random;
 use crate::reached::Reached;
 use crate::texts;
@@ -86,19 +87,38 @@ fn verdict(reached: &Reached, faults: &[String]) -> bool {
 
 /// Compares the program of document 01 on random texts.
 pub fn texts(dir: &str, command: &str, seed: u64, count: u64) -> std::io::Result<bool> {
-    programs(timetable::program, dir, command, seed, count)
+    programs(&of_check(timetable::program), dir, command, seed, count)
 }
 
 /// Compares the program of the margins on the same texts.
 pub fn margins(dir: &str, command: &str, seed: u64, count: u64) -> std::io::Result<bool> {
-    programs(margins::program, dir, command, seed, count)
+    programs(&of_check(margins::program), dir, command, seed, count)
 }
 
-/// A plan text in, an answer out.
-type Program = fn(&[u8]) -> Vec<u8>;
+/// Compares the program of the proposal on the same texts.
+pub fn propose(dir: &str, command: &str, seed: u64, count: u64) -> std::io::Result<bool> {
+    let program = Program {
+        answer: propose::program,
+        note: Reached::note_program_of_proposal,
+        faults: Reached::faults_of_proposals,
+    };
+    programs(&program, dir, command, seed, count)
+}
+
+/// A plan text in, an answer out; what is noted of a text, and what is faulty in all that was noted.
+struct Program {
+    answer: fn(&[u8]) -> Vec<u8>,
+    note: fn(&mut Reached, &[u8]),
+    faults: fn(&Reached) -> Vec<String>,
+}
+
+/// A program that begins with the check.
+fn of_check(answer: fn(&[u8]) -> Vec<u8>) -> Program {
+    Program { answer, note: Reached::note_program, faults: Reached::faults_of_texts }
+}
 
 fn programs(
-    program: Program,
+    program: &Program,
     dir: &str,
     command: &str,
     seed: u64,
@@ -109,8 +129,8 @@ fn programs(
     let mut random = Random::new(seed);
     for number in 0..count {
         let text = texts::text(&mut random);
-        reached.note_program(&text);
-        let (ours, theirs) = (program(&text), output_of(command, &text)?);
+        (program.note)(&mut reached, &text);
+        let (ours, theirs) = ((program.answer)(&text), output_of(command, &text)?);
         if ours != theirs {
             let file = format!("{dir}/{number:03}.txt");
             std::fs::write(&file, &text)?;
@@ -120,5 +140,5 @@ fn programs(
         }
     }
     println!("{count} texts, no difference");
-    Ok(verdict(&reached, &reached.faults_of_texts()))
+    Ok(verdict(&reached, &(program.faults)(&reached)))
 }

@@ -3,7 +3,8 @@ use crate::check::check;
 use crate::limits::*;
 use crate::margins::{margins, Margins};
 use crate::plan::*;
-use crate::reached::{Reached, TEXT, TICKS_OF_Z};
+use crate::propose::{proposal, Proposal};
+use crate::reached::{Reached, Source, TEXT, TICKS_OF_Z};
 use crate::reader::read;
 use crate::run::Times;
 use crate::schedule::{adopt, Record};
@@ -32,8 +33,8 @@ pub struct Driver {
     pub state: State,
     /// The list for the next `L`.
     pub records: Vec<Record>,
-    /// The greatest finish of the list that gave the constraint, as long as no `P` altered anything.
-    pub adopted: Option<u32>,
+    /// What gave the constraint, as long as no `P` altered anything.
+    pub source: Option<Source>,
     pub out: Vec<u8>,
     pub reached: Reached,
 }
@@ -124,7 +125,7 @@ impl Driver {
             constraint: Constraint::zero(),
             state: State::zero(),
             records: Vec::new(),
-            adopted: None,
+            source: None,
             out: Vec::new(),
             reached: Reached::default(),
         };
@@ -166,6 +167,7 @@ impl Driver {
             (b'Q', []) => self.query(),
             (b'E', &[task, kind, start, finish]) => self.put_record([task, kind, start, finish])?,
             (b'L', []) => self.adopt(),
+            (b'H', []) => self.propose(),
             (b'M', times) if times.len() <= MOST_TIMES => self.simulate(&short(times)?),
             (b'T', &[report]) => self.tick(report),
             (b'W', &[room]) if room <= MOST_ROOM => self.worst_timetable(room as usize),
@@ -176,7 +178,7 @@ impl Driver {
             (b'P' | b'R', &[part, index, value]) => {
                 let fits = self.slot(letter, part, index)?.put(value);
                 fits.then(|| self.line("put", &NONE))?;
-                self.adopted.take_if(|_| letter == b'P');
+                self.source.take_if(|_| letter == b'P');
             }
             _ => return None,
         }
@@ -204,12 +206,26 @@ impl Driver {
         if number == 8 {
             self.reached.note_plan(command, &self.plan);
         }
+        if self.is_on_a_proposal(command) {
+            self.reached.note_on_proposal(command, number);
+        }
         self.line(&format!("{name}\t{number}\t{place}"), rest);
+    }
+
+    /// The command takes the constraint of a proposal, or the state of a run of it.
+    fn is_on_a_proposal(&self, command: &str) -> bool {
+        let started = || self.state.plan == self.plan && self.state.constraint == self.constraint;
+        let taken = match command {
+            "D" | "M" | "S" | "W" | "Y" | "Z" => true,
+            "T" => started(),
+            _ => false,
+        };
+        taken && matches!(self.source, Some(Source::Proposal(_)))
     }
 
     fn check(&mut self) {
         let answer = check(&self.plan, &self.constraint);
-        self.reached.note_adopted("K", self.adopted, &answer.map(|()| None));
+        self.reached.note_source("K", self.source, &answer.map(|()| None));
         self.say("K", "check", answer.err().as_ref(), &NONE);
     }
 
@@ -219,7 +235,7 @@ impl Driver {
             self.reached.note_bound("B", &self.plan, &self.constraint, run);
         }
         let answer = answer.map(|run| run.response);
-        self.reached.note_adopted("B", self.adopted, &answer.map(Some));
+        self.reached.note_source("B", self.source, &answer.map(Some));
         self.say("B", "bound", answer.err().as_ref(), &[answer.unwrap_or(0)]);
     }
 
@@ -290,14 +306,22 @@ impl Driver {
         let records = std::mem::take(&mut self.records);
         let answer = adopt(&self.plan, &records);
         self.reached.note_list("L", &self.plan, &records, &answer);
-        let zero = Constraint::zero();
-        let Constraint { length, task, kind } = answer.as_ref().unwrap_or(&zero);
-        let mut rest = vec![*length];
-        rest.extend((0..TASKS).flat_map(|p| [task[p], kind[p]]));
-        self.say("L", "adopt", answer.as_ref().err(), &rest);
+        self.say("L", "adopt", answer.as_ref().err(), &length_and_entries(&answer));
         if let Ok(constraint) = answer {
             self.constraint = constraint;
-            self.adopted = records.iter().map(|record| record.finish).max();
+            self.source = records.iter().map(|record| record.finish).max().map(Source::List);
+        }
+    }
+
+    /// A refusal leaves the kept constraint alone.
+    fn propose(&mut self) {
+        let proposal = proposal(&self.plan);
+        self.reached.note_proposal("H", &self.plan, &proposal);
+        let answer = proposal.as_ref().map(Proposal::constraint).map_err(|refusal| *refusal);
+        self.say("H", "propose", answer.as_ref().err(), &length_and_entries(&answer));
+        if let (Ok(proposal), Ok(constraint)) = (proposal, answer) {
+            self.constraint = constraint;
+            self.source = Some(Source::Proposal(proposal.greatest_finish()));
         }
     }
 
@@ -347,6 +371,14 @@ impl Driver {
 /// Start and finish of task 0, of task 1, and so on.
 fn starts_and_finishes(starts: &[u32; TASKS], finishes: &[u32; TASKS]) -> Vec<u64> {
     (0..TASKS).flat_map(|t| [starts[t] as u64, finishes[t] as u64]).collect()
+}
+
+/// The length of a constraint, then task and type of each of its entries; zeros for a refusal.
+fn length_and_entries(answer: &Result<Constraint, Refusal>) -> Vec<u64> {
+    let zero = Constraint::zero();
+    let Constraint { length, task, kind } = answer.as_ref().unwrap_or(&zero);
+    let entries = (0..TASKS).flat_map(|p| [task[p], kind[p]]);
+    [*length].into_iter().chain(entries).collect()
 }
 
 /// A whole session: a line with the count of bytes, the text, the commands.

@@ -6,6 +6,7 @@ use crate::inputs::{self, EDGES};
 use crate::limits::*;
 use crate::lists;
 use crate::plan::*;
+use crate::proposals;
 use crate::random::Random;
 use crate::simulate::{bound, worst_times};
 use crate::texts;
@@ -51,13 +52,17 @@ impl Session {
     fn write_commands(&mut self) {
         self.give("K");
         self.give("D");
+        let has_order = self.driver.constraint.length > 0;
+        if self.random.once_in(if has_order { 6 } else { 1 }) {
+            self.propose();
+        }
         let accepted = crate::check::check(&self.driver.plan, &self.driver.constraint).is_ok();
         if self.random.once_in(2) || accepted {
             self.give("S");
         }
         self.longest_run();
         // In every third session about half of the commands are timetables of given times and replays.
-        let kinds = if self.random.once_in(3) { 36 } else { 24 };
+        let kinds = if self.random.once_in(3) { 39 } else { 27 };
         for _ in 0..if accepted { self.random.from(6, 30) } else { 4 } {
             let kind = self.random.below(kinds);
             self.write_some(kind);
@@ -88,11 +93,13 @@ impl Session {
             10 => self.give("S"),
             11..=13 => self.ticks(),
             14 => self.alter_order(),
-            15 | 24..=29 => self.timetable(),
+            15 | 27..=32 => self.timetable(),
             17 => self.give("D"),
             18 if self.random.once_in(3) => self.alter_worst(),
             18 | 19 => self.alter_deadline(),
             20..=22 => self.adopt(),
+            24 | 25 => self.propose(),
+            26 => self.circle(),
             _ => self.replay(),
         }
     }
@@ -163,7 +170,12 @@ impl Session {
             _ => {}
         }
         self.give("L");
-        if self.driver.adopted.is_none() {
+        self.ask_for_bound();
+    }
+
+    /// The bound of what was adopted or proposed, and perhaps more of it.
+    fn ask_for_bound(&mut self) {
+        if self.driver.source.is_none() {
             return;
         }
         self.give("B");
@@ -171,6 +183,50 @@ impl Session {
             0 => self.give("K"),
             1 => self.ask(),
             _ => {}
+        }
+    }
+
+    /// A proposal, then its bound; now and then some ticks of it.
+    fn propose(&mut self) {
+        self.give("H");
+        self.ask_for_bound();
+        if self.random.once_in(3) {
+            self.give("S");
+            self.ticks();
+        }
+    }
+
+    /// Arrows in a circle for a while, or one from a task to itself, perhaps with another fault in
+    /// the plan.
+    fn circle(&mut self) {
+        let (before, mut after) = (self.driver.plan.clone(), self.driver.plan.clone());
+        if after.tasks > TASKS as u64 {
+            return;
+        }
+        match self.random.below(5) {
+            0 => {
+                let task = self.random.below(after.tasks);
+                after.predecessors[task as usize] |= 1 << task;
+            }
+            _ => proposals::add_circle(&mut self.random, &mut after),
+        }
+        self.put_arrows(&before, &after);
+        let fault = self.random.once_in(3).then(|| self.put('P', &[0, 1, 2, 3, 4, 14, 15]));
+        self.give("H");
+        if self.random.once_in(3) {
+            self.ask();
+        }
+        if let Some(back) = fault.flatten() {
+            self.give(&back);
+        }
+        self.put_arrows(&after, &before);
+    }
+
+    /// Puts the arrows of the second plan in place of those of the first.
+    fn put_arrows(&mut self, old: &Plan, new: &Plan) {
+        let (old, new) = (&old.predecessors, &new.predecessors);
+        for t in (0..TASKS).filter(|&t| old[t] != new[t]) {
+            self.give(&format!("P\t5\t{t}\t{}", new[t]));
         }
     }
 
@@ -247,7 +303,8 @@ impl Session {
         let back = if self.random.once_in(4) {
             self.put_records();
             let back = self.put('P', &[0, 1, 1, 2, 3, 4, 4, 5, 5, 14, 15]);
-            self.give("L");
+            let command = self.random.pick(&["L", "L", "H"]);
+            self.give(command);
             back
         } else {
             let back = self.put('P', &[0, 1, 2, 3, 4, 5, 5, 6, 7, 7, 8, 8, 9, 14, 14, 15, 15]);
@@ -317,9 +374,8 @@ impl Session {
 
     /// Whether to alter the plan or a state that takes a tick, and what to ask then.
     fn plan_or_state(&mut self) -> (char, &'static str) {
-        let commands =
-            [('P', "D"), ('P', "D"), ('P', "K"), ('P', "S"), ('P', "L"), ('P', "any"), ('R', "T")];
-        let (letter, then) = self.random.pick(&commands);
+        let of_plan = ["D", "D", "K", "S", "L", "H", "any"].map(|command| ('P', command));
+        let (letter, then) = self.random.pick(&[&of_plan[..], &[('R', "T")]].concat());
         if letter == 'R' && self.last_quiet().is_none() {
             self.give("S");
         }
@@ -332,6 +388,7 @@ impl Session {
             "T" => self.legal_tick(),
             "any" => self.ask(),
             "L" => self.adopt(),
+            "H" => self.propose(),
             _ => self.give(command),
         }
     }
@@ -550,6 +607,7 @@ impl Session {
             "E\t0\t0\t0\t1", "E\t0\t0\t0\t00000000000000000001", "E\t0\t0\t0\t000000000000000000001",
             "E\t4294967295\t4294967295\t4294967295\t4294967295", "E\t0\t0\t0\t18446744073709551616",
             "L\t", "L\t0", "L ", "l", "LL", "L", "EL", "E 0 0 0 1",
+            "H\t", "H\t0", "H ", "h", "HH", "H", "HL", "H\t\t", "\tH",
             "Y\t9\t4294967296", "Z\t", "Z\t-1", "Z\t0\t", "Z\t1\t18446744073709551616", "Z\t18446744073709551615",
         ];
         let beyond = [

@@ -5,10 +5,12 @@ const USAGE: &str = "\
 usage: rival driver                                  a driver session on standard input
        rival benchplan                               a plan text on standard input
        rival margins                                 a plan text on standard input
+       rival propose                                 a plan text on standard input
        rival generate SEED SESSIONS [DIR]            sessions to DIR/NNN.in, or to standard output
        rival compare DIR COMMAND SEED SESSIONS       this driver against another
        rival compare-texts DIR COMMAND SEED TEXTS    this benchplan against another
        rival compare-margins DIR COMMAND SEED TEXTS  this margins program against another
+       rival compare-propose DIR COMMAND SEED TEXTS  this propose program against another
 ";
 
 fn main() {
@@ -29,6 +31,7 @@ fn obey(words: &[&str]) -> Result<bool, Error> {
         ["driver"] => write(&rival::driver::session(&input()?).out),
         ["benchplan"] => write(&rival::timetable::program(&input()?)),
         ["margins"] => write(&rival::margins::program(&input()?)),
+        ["propose"] => write(&rival::propose::program(&input()?)),
         ["generate", seed, count] => generate(number(seed)?, number(count)?, None),
         ["generate", seed, count, dir] => generate(number(seed)?, number(count)?, Some(dir)),
         ["compare", dir, command, seed, count] => {
@@ -39,6 +42,9 @@ fn obey(words: &[&str]) -> Result<bool, Error> {
         }
         ["compare-margins", dir, command, seed, count] => {
             rival::compare::margins(dir, command, number(seed)?, number(count)?)
+        }
+        ["compare-propose", dir, command, seed, count] => {
+            rival::compare::propose(dir, command, number(seed)?, number(count)?)
         }
         _ => Err(Error::other(USAGE)),
     }

@@ -8,6 +8,11 @@ use crate::lines::{cases_of_line, says_0, FIELDS, LINES};
 use crate::list_cases::*;
 use crate::margins::{margins, with_deadline, Margins};
 use crate::plan::*;
+use crate::proposal_cases::{
+    self, case_of_lines, case_of_proposed, case_of_proposed_bound, cases_of_proposal,
+    NEVER_PROPOSED, PROPOSED,
+};
+use crate::propose::{proposal, Proposal};
 use crate::reader::read;
 use crate::releases::{cases_of_bound, cases_of_run, cases_of_unsound, cases_of_walk};
 use crate::reports::{cases_of_refused, cases_of_taken};
@@ -19,7 +24,7 @@ use crate::timetable;
 use std::collections::BTreeMap;
 
 /// The greatest refusal number.
-const LAST: u64 = 22;
+const LAST: u64 = 23;
 
 /// No refusal has this number.
 const UNUSED: u64 = 15;
@@ -33,6 +38,13 @@ pub const TICKS_OF_Z: &str = "Z's ticks";
 /// The lines `E` that have four numbers and are answered `bad`.
 pub const BAD_E: &str = "bad E";
 
+/// What the kept constraint comes from, with its greatest finish.
+#[derive(Clone, Copy, PartialEq, Eq, Debug)]
+pub enum Source {
+    List(u32),
+    Proposal(u32),
+}
+
 /// The numbers and cases that one command must have answered.
 type Asked = (&'static str, &'static [u64], &'static [Case]);
 
@@ -45,41 +57,56 @@ const ASKED_OF_LINES: [Asked; 4] = [
 ];
 
 /// Of sessions, each by itself.
-const ASKED: [Asked; 37] = [
+const ASKED: [Asked; 52] = [
     ("B", &[], &[ADOPTED, BOUND_BELOW, BOUND_EQUAL]),
     ("B", &[], &[BOUND_IS_SUM]),
+    ("B", &[], &proposal_cases::BOUNDS),
     ("B", &[], &WAITS),
     ("B", &[], &START_EDGES),
     ("D", &[0, 8, 9, 10, 11], &MARGINS),
     ("D", &[], &FAULTS),
+    ("D", &[], &[PROPOSED]),
     ("E", &[], &[FIRST_PUT, LAST_PUT]),
     ("E", &[], FIELDS_PUT.as_flattened()),
     (BAD_E, &[], &NOT_PUT),
+    ("H", &[0, 8, 23], &proposal_cases::SIZES),
+    ("H", &[], &FAULTS),
+    ("H", &[], &[proposal_cases::BROKEN_AND_CIRCLE, proposal_cases::OWN_PREDECESSOR]),
+    ("H", &[], &proposal_cases::BOUNDS),
+    ("H", &[], &proposal_cases::CHOICES),
+    ("H", &[], &proposal_cases::CIRCLES),
+    ("H", &[], &proposal_cases::ORDERS),
+    ("H", &[], &proposal_cases::RANKS),
+    ("H", &[], &proposal_cases::STARTS),
+    ("H", &[], &proposal_cases::USABLE),
     ("K", &[], &FAULTS),
-    ("K", &[], &[ADOPTED]),
+    ("K", &[], &[ADOPTED, PROPOSED]),
     ("L", &[0, 8, 20, 21, 22], &ACCEPTED),
     ("L", &[], &FAULTS),
     ("L", &[], &COUNTS),
     ("L", &[], &RECORDS),
     ("L", &[], PLACES.as_flattened()),
     ("L", &[], &[LATER_FAULTS[0].1, LATER_FAULTS[1].1, LATER_FAULTS[2].1]),
+    ("M", &[], &[PROPOSED]),
     ("M", &[], &TIMES),
     ("M", &[], &TIME_EDGES),
     ("M", &[], &WAITS),
     ("S", &[], &FAULTS),
-    ("S", &[], &[IDLE]),
+    ("S", &[], &[IDLE, PROPOSED]),
     ("T", &[], &[EARLY_REPORT, LONGEST_REPORT, LONGEST_OVERRUN]),
+    ("T", &[], &[PROPOSED]),
     ("T", &[], &UNSOUND_PLANS),
     ("T", &[], &EARLY),
     ("T", &[], &WAITS),
     ("T", &[], &START_EDGES),
     ("T", &[], &FAULTY_REPORTS),
     ("T", &[], INSTANTS.as_flattened()),
+    ("W", &[], &[PROPOSED]),
     ("W", &[], &TIMETABLES),
     ("Y", &[0, 8, 9, 10, 11, 17, 18, 19], &TIMES),
     ("Y", &[], &TIME_EDGES),
     ("Y", &[], &TIMETABLES),
-    ("Z", &[0, 8, 9, 10, 11], &[]),
+    ("Z", &[0, 8, 9, 10, 11], &[PROPOSED]),
     (TICKS_OF_Z, &[0, 13, 14, 16], &[EARLY_REPORT]),
     (TICKS_OF_Z, &[], &WAITS),
     (TICKS_OF_Z, &[], &FAULTY_REPORTS),
@@ -93,17 +120,46 @@ const ASKED_OF_TEXTS: [Asked; 4] = [
     (TEXT, &[], &START_EDGES),
 ];
 
+/// Of texts for the program of the proposal.
+const ASKED_OF_PROPOSALS: [Asked; 10] = [
+    (TEXT, &[0, 1, 2, 3, 4, 5, 6, 7, 8, 23], &proposal_cases::SIZES),
+    (TEXT, &[], &proposal_cases::BOUNDS),
+    (TEXT, &[], &[proposal_cases::BROKEN_AND_CIRCLE, proposal_cases::CIRCLE_WITH_LINES]),
+    (TEXT, &[], &proposal_cases::CHOICES),
+    (TEXT, &[], &proposal_cases::CIRCLES),
+    (TEXT, &[], &proposal_cases::ORDERS),
+    (TEXT, &[], &proposal_cases::RANKS),
+    (TEXT, &[], &proposal_cases::STARTS),
+    (TEXT, &[], &proposal_cases::USABLE),
+    (TEXT, &[], &proposal_cases::WITH_LINES),
+];
+
 /// What one command never gives.
-const NEVER_GIVEN: [(&str, &[Case]); 8] = [
+type Never = (&'static str, &'static [Case]);
+
+const NEVER_GIVEN: [Never; 18] = [
     ("B", &NEVER),
+    ("B", &NEVER_PROPOSED),
     ("B", &[BOUND_ABOVE_SUM, IDLE_AFTER_ALL]),
+    ("D", &NEVER_PROPOSED),
+    ("H", &NEVER_PROPOSED),
     ("K", &NEVER),
+    ("K", &NEVER_PROPOSED),
+    ("M", &NEVER_PROPOSED),
     ("M", &[IDLE_AFTER_ALL]),
+    ("S", &NEVER_PROPOSED),
     ("S", &[IDLE_AFTER_ALL]),
     ("T", &[IDLE_AFTER_ALL, STRANGER_FIRST]),
+    ("W", &NEVER_PROPOSED),
+    ("Y", &NEVER_PROPOSED),
+    ("Z", &NEVER_PROPOSED),
+    (TEXT, &NEVER_PROPOSED),
     (TEXT, &[BOUND_ABOVE_SUM, IDLE_AFTER_ALL]),
     (TICKS_OF_Z, &[IDLE_AFTER_ALL, STRANGER_FIRST]),
 ];
+
+/// The program of the proposal passes over the constraint of its text.
+const NEVER_GIVEN_BY_PROPOSALS: [Never; 1] = [(TEXT, &[(9, ""), (10, ""), (11, "")])];
 
 /// By the letter of the command, then by case. A case without words is all answers with its number.
 #[derive(Default)]
@@ -151,6 +207,35 @@ impl Reached {
             self.note_margins(TEXT, plan, margins);
             self.note_timetable(TEXT, &Ok(*bytes as u64), *bytes);
         }
+    }
+
+    /// Notes a text that the program of the proposal is given: its refusal, or that of its plan, or
+    /// its proposal.
+    pub fn note_program_of_proposal(&mut self, text: &[u8]) {
+        let reading = read(text);
+        self.note_text(text, &reading);
+        let answer = reading.and_then(|(plan, constraint)| {
+            let answer = proposal(&plan);
+            self.note_proposal(TEXT, &plan, &answer);
+            self.add_cases(TEXT, case_of_lines(&plan, &constraint, &answer));
+            answer
+        });
+        self.note(TEXT, answer.err().map_or(0, |refusal| refusal.number));
+    }
+
+    /// Notes the cases of a proposal for a plan.
+    pub fn note_proposal(
+        &mut self,
+        command: &'static str,
+        plan: &Plan,
+        answer: &Result<Proposal, Refusal>,
+    ) {
+        self.add_cases(command, cases_of_proposal(plan, answer));
+    }
+
+    /// Notes a command that takes the constraint of a proposal and answers with this number.
+    pub fn note_on_proposal(&mut self, command: &'static str, number: u64) {
+        self.add_cases(command, [case_of_proposed(number)]);
     }
 
     /// Notes the case of a timetable that is answered so, into this many bytes.
@@ -240,19 +325,26 @@ impl Reached {
     }
 
     /// Notes the cases of a command that answers so, perhaps with a response, if the constraint
-    /// comes from a list with this greatest finish.
-    pub fn note_adopted(
+    /// comes from a list or a proposal.
+    pub fn note_source(
         &mut self,
         command: &'static str,
-        finish: Option<u32>,
+        source: Option<Source>,
         answer: &Result<Option<u32>, Refusal>,
     ) {
-        let Some(finish) = finish else { return };
         let number = answer.err().map_or(0, |refusal| refusal.number);
-        self.add_cases(command, [case_of_adopted(number)]);
-        if let Ok(Some(response)) = *answer {
-            self.add_cases(command, [case_of_bound(response, finish)]);
-        }
+        let response = answer.ok().flatten();
+        let (of_number, of_bound) = match source {
+            Some(Source::List(finish)) => {
+                (case_of_adopted(number), response.map(|response| case_of_bound(response, finish)))
+            }
+            Some(Source::Proposal(finish)) => {
+                let of_bound = |response| case_of_proposed_bound(response, finish);
+                (case_of_proposed(number), response.map(of_bound))
+            }
+            None => return,
+        };
+        self.add_cases(command, [of_number].into_iter().chain(of_bound));
     }
 
     /// Notes the cases of a simulation or timetable that answers these times so.
@@ -388,17 +480,24 @@ impl Reached {
         let by_none = used.filter(|&n| self.total(n) == 0).map(|n| format!("never reached: {n}"));
         let unused = (self.total(UNUSED) > 0).then(|| format!("given: {UNUSED}"));
         let by_one = [self.never_given(&ASKED_OF_LINES), self.never_given(&ASKED)].concat();
-        by_none.chain(by_one).chain(unused).chain(self.wrongly_given()).collect()
+        by_none.chain(by_one).chain(unused).chain(self.wrongly_given(&NEVER_GIVEN)).collect()
     }
 
     /// What was asked of the texts for a program and not met in them, and what is never given.
     pub fn faults_of_texts(&self) -> Vec<String> {
         let asked = [self.never_given(&ASKED_OF_LINES), self.never_given(&ASKED_OF_TEXTS)].concat();
-        asked.into_iter().chain(self.wrongly_given()).collect()
+        asked.into_iter().chain(self.wrongly_given(&NEVER_GIVEN)).collect()
     }
 
-    fn wrongly_given(&self) -> Vec<String> {
-        let by_one = NEVER_GIVEN.into_iter().flat_map(|(command, never)| {
+    /// The same of texts for the program of the proposal.
+    pub fn faults_of_proposals(&self) -> Vec<String> {
+        let asked = [self.never_given(&ASKED_OF_LINES), self.never_given(&ASKED_OF_PROPOSALS)];
+        let never = [&NEVER_GIVEN[..], &NEVER_GIVEN_BY_PROPOSALS].concat();
+        asked.concat().into_iter().chain(self.wrongly_given(&never)).collect()
+    }
+
+    fn wrongly_given(&self, never: &[Never]) -> Vec<String> {
+        let by_one = never.iter().flat_map(|&(command, never)| {
             let given = never.iter().filter(move |&&case| self.times_of_case(command, case) > 0);
             given.map(move |&case| format!("given: {} by {command}", name(case)))
         });

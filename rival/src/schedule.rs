@@ -113,7 +113,7 @@ pub fn holders(records: &[Record], place: usize) -> usize {
 }
 
 /// Tasks by start, equal starts by lower number, types as listed.
-fn constraint(records: &[Record]) -> Constraint {
+pub fn constraint(records: &[Record]) -> Constraint {
     let mut sorted = records.to_vec();
     sorted.sort_by_key(|record| (record.start, record.task));
     let mut constraint = Constraint::zero();

@@ -3,19 +3,23 @@ use crate::edges::{self, SIXTEEN_BITS};
 use crate::inputs;
 use crate::limits::*;
 use crate::plan::{pair, Constraint, Plan};
+use crate::proposals;
 use crate::random::Random;
 use crate::reader::read;
 use crate::run::Times;
 use crate::simulate::bound;
 
 /// A text: about half are sound, the others are refused for one fault or damaged; now and then one
-/// is about as long as may be, or has a margin as far from zero as may be.
+/// is about as long as may be, has a margin as far from zero as may be, or is for a proposal.
 pub fn text(random: &mut Random) -> Vec<u8> {
     if random.once_in(30) {
         return long_text(random);
     }
     if random.once_in(25) {
         return join(&extreme_lines(random));
+    }
+    if random.once_in(6) {
+        return join(&proposals::lines(random));
     }
     let mut lines = sound_lines(random);
     match random.below(29) {
@@ -40,7 +44,7 @@ fn damaged_text(random: &mut Random, mut lines: Vec<String>) -> Vec<u8> {
     bytes
 }
 
-fn join(lines: &[String]) -> Vec<u8> {
+pub fn join(lines: &[String]) -> Vec<u8> {
     let mut text = lines.join("\n");
     if !lines.is_empty() {
         text.push('\n');
@@ -216,7 +220,7 @@ fn instant(random: &mut Random, letter: char) -> u64 {
 }
 
 /// A T line after which every absent task is below one with times.
-fn last_task() -> String {
+pub fn last_task() -> String {
     format!("T\t{}\t0\t1\t1", TASKS - 1)
 }
 

@@ -7,6 +7,8 @@ use rival::inputs::{reports, some_report, EDGES};
 use rival::limits::*;
 use rival::lines::{FIELDS, LINES};
 use rival::plan::*;
+use rival::proposal_cases;
+use rival::proposals;
 use rival::random::Random;
 use rival::reached::{Reached, TEXT};
 use rival::state::{start, State};
@@ -129,6 +131,33 @@ fn margins() {
     met.cases("", &cases::MARGINS);
 }
 
+#[test]
+fn propose() {
+    let (mut random, mut met) = (Random::new(6), Met::default());
+    for _ in 0..4_000 {
+        let (mut plan, mut unused) = (proposals::plan(&mut random), Constraint::zero());
+        if random.once_in(4) {
+            proposals::add_circle(&mut random, &mut plan);
+        }
+        if random.once_in(4) {
+            damage(&mut random, &mut plan, &mut unused);
+        }
+        let plain = rival::propose::propose(&plan);
+        assert_eq!(plain, fast::propose(&plan));
+        met.note(&plain);
+        met.0.note_proposal("", &plan, &rival::propose::proposal(&plan));
+    }
+    met.all(&[0, 8, 23]);
+    met.cases("", &proposal_cases::SIZES);
+    met.cases("", &proposal_cases::USABLE);
+    met.cases("", &proposal_cases::RANKS);
+    met.cases("", &proposal_cases::CHOICES);
+    met.cases("", &proposal_cases::STARTS);
+    met.cases("", &proposal_cases::ORDERS);
+    met.cases("", &proposal_cases::CIRCLES);
+    met.cases("", &[proposal_cases::BROKEN_AND_CIRCLE, proposal_cases::OWN_PREDECESSOR]);
+}
+
 /// A session of the generator: the text, then commands.
 fn split(input: &[u8]) -> (&[u8], impl Iterator<Item = &[u8]>) {
     let end = input.iter().position(|&b| b == b'\n').unwrap();
@@ -162,6 +191,11 @@ fn compare(driver: &Driver, command: &[u8], met: &mut Met) {
             assert_eq!(plain, fast::margins(plan, constraint));
             met.note(&plain);
         }
+        Some(b'H') => {
+            let plain = rival::propose::propose(plan);
+            assert_eq!(plain, fast::propose(plan));
+            met.note(&plain);
+        }
         Some(b'T') => {
             let Some(&[report]) = fields::<u64>(command).as_deref() else { return };
             let plain = driver.state.clone().tick(report);
@@ -174,7 +208,7 @@ fn compare(driver: &Driver, command: &[u8], met: &mut Met) {
 }
 
 #[test]
-fn start_simulate_margins_and_tick() {
+fn start_simulate_margins_propose_and_tick() {
     let mut met = Met::default();
     for number in 0..70 {
         let (input, _) = rival::generate::session(1, number);
@@ -185,7 +219,7 @@ fn start_simulate_margins_and_tick() {
             driver.command(command);
         }
     }
-    met.all(&[0, 8, 12, 13, 14, 16, 17, 18]);
+    met.all(&[0, 8, 12, 13, 14, 16, 17, 18, 23]);
     met.cases("T", &cases::FAULTY_REPORTS);
 }
 

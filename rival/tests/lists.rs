@@ -5,7 +5,7 @@ use rival::driver::{session, MOST_RECORDS};
 use rival::limits::*;
 use rival::list_cases::*;
 use rival::plan::Refusal;
-use rival::reached::{Reached, BAD_E};
+use rival::reached::{Reached, Source, BAD_E};
 
 const PLAN_A: &str = include_str!("../../examples/plan-a.txt");
 
@@ -282,12 +282,12 @@ fn cases_of_bounds() {
 fn what_is_never_given() {
     let mut reached = Reached::default();
     assert!(!reached.faults().iter().any(|fault| fault.starts_with("given")));
-    reached.note_adopted("B", None, &Ok(Some(9)));
-    reached.note_adopted("B", Some(9), &Ok(Some(9)));
-    reached.note_adopted("K", Some(9), &Ok(None));
+    reached.note_source("B", None, &Ok(Some(9)));
+    reached.note_source("B", Some(Source::List(9)), &Ok(Some(9)));
+    reached.note_source("K", Some(Source::List(9)), &Ok(None));
     assert!(!reached.faults().iter().any(|fault| fault.starts_with("given")));
-    reached.note_adopted("B", Some(8), &Ok(Some(9)));
-    reached.note_adopted("K", Some(8), &Err(Refusal { number: 11, place: 0 }));
+    reached.note_source("B", Some(Source::List(8)), &Ok(Some(9)));
+    reached.note_source("K", Some(Source::List(8)), &Err(Refusal { number: 11, place: 0 }));
     let faults = reached.faults();
     assert!(faults.contains(&"given: 0 above the greatest finish by B".to_string()));
     assert!(faults.contains(&"given: 11 of an adopted list by K".to_string()));

@@ -1,6 +1,7 @@
 -- The laws that belong to no one function.
 -- an order by falling keys
 pub mod Keys
+pub mod Inserting
 -- the unit that a task takes
 pub mod Choices
 -- the order in which tasks are placed, and the schedule

@@ -30,7 +30,7 @@ falls-to l e = rw (← e) l
 
 -- more than the members of a set, so that one position counts for more than they
 abbrev step : ℕ
-step = width + 1
+step = width + 2
 
 -- the positions from that of t on, in the legal order that takes the lowest task first
 abbrev left : List ℕ → ℕ → ℕ → ℕ
@@ -42,9 +42,9 @@ leftIn predecessors tasks s u = cond (has s u) (left predecessors tasks u) 0
 unfoldable pub taskLeft : List ℕ → ℕ → ℕ → ℕ
 taskLeft predecessors tasks t = left predecessors tasks t * step
 
--- the positions from the first of a member on, and then the number of members
+-- the positions from the first of a member on, and then the number of members; one more than that is for a look into the table
 unfoldable pub setLeft : List ℕ → ℕ → ℕ → ℕ
-setLeft predecessors tasks s = greatest tasks (leftIn predecessors tasks s) * step + size s
+setLeft predecessors tasks s = greatest tasks (leftIn predecessors tasks s) * step + 1 + size s
 
 module _ {wcet predecessors : List ℕ} {tasks : ℕ} (ready : Ready wcet predecessors tasks) where
   pub ordered : Legal (arrow predecessors) tasks (lowestFirst (arrow predecessors) tasks)
@@ -77,7 +77,7 @@ module _ {wcet predecessors : List ℕ} {tasks : ℕ} (ready : Ready wcet predec
           rw e (omega (arith, place-low ordered u m)))
           (λ e. rw e zero-le)
 
-      go : {g n k : ℕ} → g ≤ k - 1 → n ≤ width → 0 < k → g * step + n < k * step
+      go : {g n k : ℕ} → g ≤ k - 1 → n ≤ width → 0 < k → g * step + 1 + n < k * step
       go a b c = omega arith
 
 -- from a set to its lowest member, and to the others
@@ -115,7 +115,7 @@ module _ {tasks s : ℕ} (fits : s < 2 ^ width) (some : s ≡ 0 → ⊥) (h : Al
         ≡ max (left predecessors tasks t) (greatest tasks (leftIn predecessors tasks others))
     split = greatest-is (left predecessors tasks)
 
-    pub member-falls : taskLeft predecessors tasks t < setLeft predecessors tasks s
+    pub member-falls : taskLeft predecessors tasks t + 1 < setLeft predecessors tasks s
     unfolding taskLeft setLeft
     member-falls = omega (arith, split, fewer-left s fits some)
 

@@ -34,7 +34,7 @@ fn own_rank(wcet: &[u32; MOST_PAIRS], t: usize) -> u64
     PARTS * total / types
 }
 
-// The rank of task t. It is in the table if it is known, and afterwards it is: no rank is computed twice.
+// The rank of task t: the table has it if it is known, and afterwards it has it. No rank is computed twice.
 // This ends because each call within is for tasks at later positions of a legal order.
 fn rank<'a>(
     wcet: &'a [u32; MOST_PAIRS],
@@ -52,6 +52,22 @@ fn rank<'a>(
     if known != 0 {
         return known;
     }
+    computed_rank(wcet, predecessors, tasks, t, table)
+}
+
+// The rank of task t from those of its successors, noted in the table.
+fn computed_rank<'a>(
+    wcet: &'a [u32; MOST_PAIRS],
+    predecessors: &'a [u64; MOST_TASKS],
+    tasks: usize,
+    t: usize,
+    table: &mut [u64; MOST_TASKS],
+) -> u64
+    requires { ⌜ Ready (now wcet) (now predecessors) tasks ⌝ }
+    requires { ⌜ t < tasks ⌝ }
+    requires { ⌜ Noted (now wcet) (now predecessors) tasks (now table) ⌝ }
+    ensures { λ r. ⌜ RankFound (now (wcet .entry)) (now (predecessors .entry)) tasks t (now (table .entry)) (now (table .exit)) r ⌝ }
+{
     let after = successors(predecessors, tasks, t);
     let most = greatest_rank(wcet, predecessors, tasks, after, table);
     let r = own_rank(wcet, t) + most;

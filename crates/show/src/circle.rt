@@ -1,4 +1,4 @@
-// Refusal 11: which predecessor stands later; and if the arrows lead in a circle, the circle.
+// Refusal 11: which predecessor stands later; and if the arrows lead in a circle, the circle. Refusal 23: the circle alone.
 use crate::arrows;
 use crate::cells;
 use crate::checks;
@@ -107,22 +107,27 @@ fn put_ways(next: &[usize; MOST_TASKS], t: usize) {
     }
 }
 
-// The line of an arrow; it goes against the order if the task that it leads to stands above.
-fn quote_arrow(text: &[u8], from: usize, to: usize) {
+// Whether an arrow goes against the order: the task that it leads to stands above.
+fn is_against(text: &[u8], from: usize, to: usize) -> bool {
+    lines::find_one(text, b'C', to as u64) < lines::find_one(text, b'C', from as u64)
+}
+
+// The line of an arrow; where the order counts, with a remark if it goes against it.
+fn quote_arrow(text: &[u8], from: usize, to: usize, is_ordered: bool) {
     let place = lines::find_two(text, b'A', from as u64, to as u64);
-    if lines::find_one(text, b'C', to as u64) < lines::find_one(text, b'C', from as u64) {
+    if is_ordered & is_against(text, from, to) {
         lines::quote_with(text, place, b" (against the order)");
     } else {
         lines::quote(text, place);
     }
 }
 
-fn quote_arrows(text: &[u8], next: &[usize; MOST_TASKS], t: usize) {
+fn quote_arrows(text: &[u8], next: &[usize; MOST_TASKS], t: usize, is_ordered: bool) {
     let mut u = t;
     let mut i = 0;
     while i < MOST_TASKS {
         let v = get::entry(next, u);
-        quote_arrow(text, u, v);
+        quote_arrow(text, u, v, is_ordered);
         if v == t {
             return;
         }
@@ -140,15 +145,10 @@ fn put_advice(next: &[usize; MOST_TASKS], t: usize) {
     }
 }
 
-// The circle through a task: that of the refused one, or another fault of the text besides.
-fn put_circle(text: &[u8], predecessors: &[u64; MOST_TASKS], t: usize, besides: bool) {
+// The circle through a task, what to do about it, and its arrows. How the sentence begins was printed before.
+fn put_circle(text: &[u8], predecessors: &[u64; MOST_TASKS], t: usize, is_ordered: bool) {
     let mut next = [0; MOST_TASKS];
     ways_to(predecessors, &mut next, t);
-    if besides {
-        put::text(b"  besides, other arrows");
-    } else {
-        put::text(b"  the arrows");
-    }
     put::words(
         b" lead in a circle, so that no order is right: ",
         t as u64,
@@ -156,7 +156,17 @@ fn put_circle(text: &[u8], predecessors: &[u64; MOST_TASKS], t: usize, besides: 
     );
     put_ways(&next, t);
     put_advice(&next, t);
-    quote_arrows(text, &next, t);
+    quote_arrows(text, &next, t, is_ordered);
+}
+
+// The circle of the refused task, or another fault of the text besides.
+fn put_own_or_other(text: &[u8], predecessors: &[u64; MOST_TASKS], t: usize, is_own: bool) {
+    if is_own {
+        put::text(b"  the arrows");
+    } else {
+        put::text(b"  besides, other arrows");
+    }
+    put_circle(text, predecessors, t, true);
 }
 
 // The lines of a predecessor that stands later: its arrow, and its place in the order.
@@ -261,6 +271,15 @@ pub fn show<'a>(
     }
     put_count(predecessors, order, n);
     if s < MOST_TASKS {
-        put_circle(text, predecessors, s, s != t);
+        put_own_or_other(text, predecessors, s, s == t);
+    }
+}
+
+// Nothing where there is no circle.
+pub fn show_alone(text: &[u8], predecessors: &[u64; MOST_TASKS]) {
+    let t = lowest_on_circle(predecessors);
+    if t < MOST_TASKS {
+        put::text(b"refused 23: the arrows");
+        put_circle(text, predecessors, t, false);
     }
 }

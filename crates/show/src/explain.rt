@@ -1,5 +1,5 @@
-// Why a text is refused: a sentence that names the cause, and below it the lines of the text that it speaks of. Nothing of a
-// text that is taken.
+// Why a text is refused, or why it has no proposal: a sentence that names the cause, and below it the lines of the text that it
+// speaks of. Nothing of a text that is taken, or that has a proposal.
 use crate::checks;
 use crate::circle;
 use crate::faults;
@@ -45,7 +45,16 @@ fn unchecked(text: &[u8], p: Plan, c: Constraint) {
     }
 }
 
-pub fn show(text: &[u8]) {
+// The order of the text, if it has one, does not count.
+fn unproposed(text: &[u8], p: Plan) {
+    if plan::plan_ok(p) {
+        circle::show_alone(text, &p.predecessors);
+    } else {
+        checks::no_plan(text, p.tasks);
+    }
+}
+
+pub fn show(text: &[u8], is_proposal: bool) {
     let a = plan_text::read(text);
     let number = a.number;
     let place = a.place;
@@ -53,5 +62,9 @@ pub fn show(text: &[u8]) {
         unread(text, number, place);
         return;
     }
-    unchecked(text, a.plan, a.constraint);
+    if is_proposal {
+        unproposed(text, a.plan);
+    } else {
+        unchecked(text, a.plan, a.constraint);
+    }
 }

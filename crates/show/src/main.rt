@@ -1,5 +1,6 @@
 // What people are shown of a plan text on standard input, by the word that follows the program's name: `explain`, why the text is
-// refused; `why`, what held each task until its start; `picture`, the timetable of worst times as a chart.
+// refused; `unproposed`, why no order is proposed for it; `why`, what held each task until its start; `picture`, the timetable of worst
+// times as a chart.
 use libc::STDIN_FILENO;
 
 mod arrows;
@@ -62,7 +63,9 @@ fn is_word(word: &[u8], wanted: &[u8]) -> bool {
 // Nothing at any other word.
 fn show(word: &[u8], text: &[u8]) {
     if is_word(word, b"explain") {
-        explain::show(text);
+        explain::show(text, false);
+    } else if is_word(word, b"unproposed") {
+        explain::show(text, true);
     } else if is_word(word, b"why") {
         show_plan(text, false);
     } else if is_word(word, b"picture") {

@@ -122,7 +122,7 @@ proposes n p =
     let c = a .constraint in
     a .number ∷ a .place ∷ c .len ∷ take n (c .order) ++ take n (c .chosen) ++ bound p c ∷ greatestFinish (scheduleBy p) ∷ []
 
--- a refusal: number, place and length
+-- number, place and length alone
 unfoldable pub proposesNot : Plan → List ℕ
 proposesNot p = let a = proposed p in a .number ∷ a .place ∷ a .constraint .len ∷ []
 
@@ -149,15 +149,16 @@ proposalTable =
     ∷ row (scheduledOn 5 planWarm) (0 ∷ 4 ∷ 2 ∷ 7 ∷ 7 ∷ 2 ∷ 7 ∷ 6 ∷ 10 ∷ 9 ∷ [])
     -- equal ranks by lower number, and the first found kept: both units of type 0, then type 1
     ∷ row (proposes 3 planLevel) (0 ∷ 0 ∷ 3 ∷ 0 ∷ 1 ∷ 2 ∷ 0 ∷ 0 ∷ 1 ∷ 4 ∷ 4 ∷ [])
-    -- a gap in a unit stays: task 2 comes after task 1, and the order of the constraint is by start
+    -- a gap in a unit stays: task 2 comes after task 1, though the unit is free until 10
     ∷ row (scheduledOn 3 planGap) (0 ∷ 10 ∷ 13 ∷ 10 ∷ 13 ∷ 15 ∷ [])
     -- the average is over usable types: task 0 goes before task 1
     ∷ row (take 3 (ranksOf planMean) ++ scheduledOn 3 planMean) (3360 ∷ 2520 ∷ 840 ∷ 0 ∷ 0 ∷ 3 ∷ 4 ∷ 3 ∷ 4 ∷ [])
-    -- task 2 waits for its instant on the first unit, which is free since 5, and not on the second, which is free since 2
+    -- task 2 waits for its instant, though both units are free before
     ∷ row (scheduledOn 3 planLate) (0 ∷ 0 ∷ 6 ∷ 5 ∷ 2 ∷ 7 ∷ [])
-    -- 23: a circle of two tasks, of three; a chain is none. 8 comes first, and covers an arrow from a task to itself
+    -- 23: a circle of two tasks, of three; 0 to 1, and both to 2, is none, and the greater of two successors' ranks counts. 8 comes
+    -- first, and covers an arrow from a task to itself
     ∷ row (proposesNot (planRing 1 (2 ∷ 1 ∷ 0 ∷ [])) ++ proposesNot (planRing 1 (4 ∷ 1 ∷ 2 ∷ []))) (23 ∷ 0 ∷ 0 ∷ 23 ∷ 0 ∷ 0 ∷ [])
-    ∷ row (proposesNot (planRing 1 (0 ∷ 1 ∷ 3 ∷ []))) (0 ∷ 0 ∷ 3 ∷ [])
+    ∷ row (proposesNot (planRing 1 (0 ∷ 1 ∷ 3 ∷ [])) ++ take 3 (ranksOf (planRing 1 (0 ∷ 1 ∷ 3 ∷ [])))) (0 ∷ 0 ∷ 3 ∷ 2520 ∷ 1680 ∷ 840 ∷ [])
     ∷ row (proposesNot (planRing 0 (2 ∷ 1 ∷ 0 ∷ [])) ++ proposesNot (planRing 1 (1 ∷ 0 ∷ 0 ∷ []))) (8 ∷ 0 ∷ 0 ∷ 8 ∷ 0 ∷ 0 ∷ [])
     ∷ []
 

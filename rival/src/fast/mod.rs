@@ -2,6 +2,7 @@
 mod adopt;
 mod check;
 mod margins;
+mod propose;
 mod read;
 mod simulate;
 mod tick;
@@ -9,6 +10,7 @@ mod tick;
 pub use adopt::adopt;
 pub use check::check;
 pub use margins::margins;
+pub use propose::propose;
 pub use read::read;
 pub use simulate::simulate;
 pub use tick::{replay, start, tick};

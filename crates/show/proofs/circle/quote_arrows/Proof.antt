@@ -5,10 +5,10 @@ use Rattle.show.proofs.circle.quote_arrows.Statement.{statement}
 use Rattle.show.proofs.circle.quote_arrows.Tie as tie
 
 abbrev Inv-loop : tie.InvT-loop
-Inv-loop text next t u₀ i₀ u i = Unit {0}
+Inv-loop text next t is-ordered u₀ i₀ u i = Unit {0}
 
 abbrev μ-loop : tie.MeasureT-loop
-μ-loop text next t u₀ i₀ u i = 64 - i
+μ-loop text next t is-ordered u₀ i₀ u i = 64 - i
 
 pub quote-arrows-spec : {M : Type 1} → statement M
 quote-arrows-spec =
