@@ -9,7 +9,7 @@ use native.Mathlib.Omega.{arith}
 use borrow.Author.Tests.{eqb-true, leb-true, lt-ltb, ltb-true, ltb-false}
 use lib.Dec.{eqb, leb, ltb}
 use lib.ListN.{getD}
-use Rattle.task_set.specs.Bounded.{any, count, tabulate}
+use Rattle.task_set.specs.Bounded.{count}
 use Rattle.task_set.specs.Sets.{has}
 use Rattle.task_set.proofs.Truth.{by-test, and-left, and-right}
 use Rattle.task_set.proofs.Bounded.{any-elim}
@@ -18,7 +18,7 @@ use Rattle.task_set.proofs.Pigeons.{pigeons}
 use Rattle.plan.specs.declared.Plan.{Plan}
 use Rattle.plan.specs.Rules.{mostTypes, mostUnits, mostTasks, timeOf, predecessorsOf, releaseOf, usable, planOk}
 use Rattle.plan.specs.Refusals.{noRefusal, verdict}
-use Rattle.plan.proofs.Kept.{few-tasks, few-types, some-units, few-units, short-time, usable-type, some-type}
+use Rattle.plan.proofs.Kept.{few-tasks, some-units, usable-type, some-type}
 use Rattle.runs.specs.Running.{bound}
 use Rattle.ranks.specs.Arrows.{arrow, circle}
 use Rattle.ranks.specs.Ranks.{ownRank, rankOf, ranksOf}
@@ -30,7 +30,7 @@ use Rattle.adoption.specs.Schedules.{typeAt, startAt, finishAt, greatestFinish,
 use Rattle.adoption.specs.Schedules as schedules
 use Rattle.adoption.proofs.Taken.{Taken, judged-taken}
 use Rattle.adoption.proofs.Promises as adopted
-use Rattle.proposal.specs.Proposals.{placeOf, taskAt, mostSlots, typeOf, fits, Bench, benchOfPlan, scheduleBy}
+use Rattle.proposal.specs.Proposals.{placeOf, taskAt, mostSlots, typeOf, fits, benchOfPlan, scheduleBy}
 use Rattle.proposal.specs.Steps.{slot}
 use Rattle.proposal.proofs.Choices.{slot-fits, unit-found}
 use Rattle.proposal.proofs.Places as places

@@ -1,22 +1,21 @@
 -- What the functions that place the tasks ask of each other, and from the arrays to the constraint. Assumes nothing.
 use mathlib.Core.Path.{_≡_, refl, sym, ap, ap₂, _∙_}
-use mathlib.Core.Bool.{Bool, cond, _&&_, _||_}
+use mathlib.Core.Bool.{cond}
 use mathlib.Core.List.{List}
 use Prim.Native.Nat.{ℕ, zero, suc, _+_, _*_, _≤_, _<_, max}
-use native.Mathlib.Nat.{le-trans, le-of-eq, le-step, lt-of-lt-of-le, lt-suc-self, le-refl}
+use native.Mathlib.Nat.{le-trans, le-of-eq, le-step, lt-of-lt-of-le, lt-suc-self}
 use native.Mathlib.Numerals.{add-one}
 use native.Mathlib.Omega.{arith}
 use borrow.Author.Tests.{lt-ltb, ltb-true}
 use lib.Dec.{eqb, ltb}
 use lib.ListN.{getD, set}
-use Rattle.task_set.specs.Bounded.{first, tabulate}
+use Rattle.task_set.specs.Bounded.{tabulate}
 use Rattle.task_set.proofs.Truth.{by-test}
 use Rattle.task_set.proofs.Bounded.{any-elim, count-cong}
 use Rattle.task_set.proofs.Search.{first-cong}
 use Rattle.task_set.proofs.Tables.{getD-tabulate, tabulate-cong}
-use Rattle.task_set.proofs.Upto.{Upto, upto-more, upto-end}
+use Rattle.task_set.proofs.Upto.{Upto, upto-more}
 use Rattle.plan.specs.declared.Plan.{Plan}
-use Rattle.plan.specs.declared.Constraint.{Constraint}
 use Rattle.plan.specs.Rules.{mostTypes, mostTasks, longestTime, lastInstant, latestRelease, predecessorsOf, releaseOf, usable}
 use Rattle.plan.specs.Refusals.{constraintOf}
 use Rattle.plan.proofs.Kept.{few-tasks, release-low, some-units, few-units, short-time, usable-type, some-type}

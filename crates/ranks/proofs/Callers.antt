@@ -8,7 +8,7 @@ use native.Mathlib.Omega.{arith}
 use borrow.Author.Tests.{ltb-true, ltb-false}
 use lib.Dec.{ltb}
 use lib.ListN.{getD, List·getD-eq-default}
-use Rattle.task_set.specs.Bounded.{count, tabulate}
+use Rattle.task_set.specs.Bounded.{tabulate}
 use Rattle.task_set.proofs.Truth.{by-test}
 use Rattle.task_set.proofs.Bounded.{any-elim, count-less}
 use Rattle.task_set.proofs.Tables.{length-tabulate, getD-tabulate}

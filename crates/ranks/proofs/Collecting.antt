@@ -1,7 +1,6 @@
 -- The loop that collects the successors of a task, with the bit of the task that it looks at. Assumes nothing.
 use mathlib.Core.Path.{_≡_, refl, sym, ap, ap₂, _∙_}
 use mathlib.Core.Bool.{Bool, true, cond}
-use mathlib.Core.List.{List}
 use Prim.Native.Nat.{ℕ, _+_, _*_, _%_, _^_, _≤_, _<_, zero-le}
 use native.Mathlib.Nat.{lt-of-lt-of-le, one-mul, pow-suc}
 use native.Mathlib.Numerals.{add-one}

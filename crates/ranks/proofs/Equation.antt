@@ -1,9 +1,9 @@
 -- What a rank is where no arrows lead back: the task's own, and the greatest of its successors. Assumes nothing.
 use mathlib.Core.Path.{_≡_, refl, ap}
-use mathlib.Core.Bool.{Bool, true, false, cond}
+use mathlib.Core.Bool.{Bool, true, cond}
 use mathlib.Core.List.{List}
-use Prim.Native.Nat.{ℕ, zero, suc, _+_, _*_, _-_, _/_, _%_, _≤_, _<_, zero-le}
-use native.Mathlib.Nat.{le-trans, le-of-eq, le-step, mul-le-mul-left, mul-comm, div-le-self, le-div-iff-mul-le}
+use Prim.Native.Nat.{ℕ, zero, suc, _+_, _*_, _-_, _≤_, _<_, zero-le}
+use native.Mathlib.Nat.{le-trans, mul-le-mul-left, div-le-self, le-div-iff-mul-le}
 use native.Mathlib.Omega.{arith}
 use borrow.Author.Tests.{ltb-true}
 use lib.Dec.{ltb}
@@ -89,7 +89,7 @@ module _ (own : ℕ → ℕ) (arrow : ℕ → ℕ → Bool) (tasks : ℕ) where
     unfolding rankBy rankWithin
     rank-is t l = steady tasks (suc tasks) t l (omega arith) (omega arith)
 
-    -- where an arrow leads from t to u, the rank of t is greater by its own
+    -- where an arrow leads from t to u, the rank of t is greater, by its own at least
     pub rank-falls : (t u : ℕ) → t < tasks → u < tasks → arrow t u ≡ true
         → own t + rankBy own arrow tasks u ≤ rankBy own arrow tasks t
     rank-falls t u l m e =

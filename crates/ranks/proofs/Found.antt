@@ -15,7 +15,7 @@ use Rattle.task_set.proofs.Truth.{by-test, and-left}
 use Rattle.task_set.proofs.Members.{has-none, has-remove, has-setOf, lowest-low, lowest-member, fewer-left}
 use Rattle.plan.specs.Rules.{mostTasks}
 use Rattle.dispatch_theory.specs.Sums.{greatest}
-use Rattle.dispatch_theory.proofs.Sums.{greatest-lub, greatest-le, greatest-cong, greatest-apart}
+use Rattle.dispatch_theory.proofs.Sums.{greatest-lub, greatest-cong, greatest-apart}
 use Rattle.ranks.specs.Arrows.{arrow}
 use Rattle.ranks.specs.Ranks.{ownRank, rankOf}
 use Rattle.ranks.specs.Steps.{Ready, Noted, Grown, RankFound, GreatestFound, AllTasks, greatestIn}

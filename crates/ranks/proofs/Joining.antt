@@ -11,12 +11,12 @@ use native.Mathlib.Numerals.{add-one}
 use native.Mathlib.Omega.{arith}
 use borrow.Author.Tests.{eq-eqb, eqb-true, lt-ltb, le-ltb, not-true}
 use lib.Dec.{eqb, ltb}
-use Rattle.task_set.specs.Bounded.{all, any, count, implies}
+use Rattle.task_set.specs.Bounded.{all, count, implies}
 use Rattle.task_set.specs.Sets.{width, has, insert, subset, size}
 use Rattle.task_set.proofs.Truth.{clash, by-test, off, and-left, and-right, or-left, or-right, or-cases, implies-elim, implies-intro}
 use Rattle.task_set.proofs.Bounded.{all-elim, all-intro, any-elim, not-all, count-le, count-past, count-short, count-every}
-use Rattle.task_set.proofs.Members.{has-none, has-past, has-insert, insert-small, size-grows}
-use Rattle.plan.specs.Rules.{mostTasks, predecessorsOf}
+use Rattle.task_set.proofs.Members.{has-none, has-insert, insert-small, size-grows}
+use Rattle.plan.specs.Rules.{predecessorsOf}
 use Rattle.ranks.specs.Arrows.{arrow, circle}
 use Rattle.ranks.specs.Steps.{Known, joined}
 use Rattle.ranks.proofs.Orders.{standsNext, stuck-circle}

@@ -7,7 +7,7 @@ use native.Mathlib.Omega.{arith}
 use borrow.Author.Tests.{eq-eqb, eqb-true, ltb-true, ltb-false, not-true}
 use lib.Dec.{eqb, ltb}
 use Rattle.task_set.specs.Bounded.{all, any, count, first, implies}
-use Rattle.task_set.proofs.Truth.{clash, by-test, off, and-left, and-right, and-both, or-left, or-right, or-cases, implies-elim}
+use Rattle.task_set.proofs.Truth.{clash, by-test, off, and-left, and-right, and-both, or-left, or-right, implies-elim}
 use Rattle.task_set.proofs.Bounded.{all-elim, any-intro, any-elim, any-none, any-off, not-all, count-none, count-more, count-every}
 use Rattle.task_set.proofs.Search.{first-is, first-any}
 use Rattle.task_set.proofs.Cover.{cover}

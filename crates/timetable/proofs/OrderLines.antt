@@ -1,6 +1,6 @@
 -- The C lines of an order: their lengths, and that those of every proposal fit. Assumes nothing.
-use mathlib.Core.Path.{_≡_, refl, ap, _∙_}
-use Prim.Native.Nat.{ℕ, _+_, _*_, _≤_, _<_}
+use mathlib.Core.Path.{_≡_, refl}
+use Prim.Native.Nat.{ℕ, _+_, _≤_, _<_}
 use native.Mathlib.Nat.{le-trans, le-of-eq, lt-of-lt-of-le, mul-le-mul-right}
 use native.Mathlib.Omega.{arith}
 use lib.ListN.{length, length-append}
@@ -9,12 +9,11 @@ use Rattle.plan.specs.declared.Constraint.{Constraint}
 use Rattle.plan.specs.Rules.{mostTasks}
 use Rattle.plan.specs.Refusals.{entryAt, verdict}
 use Rattle.plan.proofs.Accepted.{Accepted, accepted}
-use Rattle.dispatch_theory.specs.Sums.{sum}
 use Rattle.dispatch_theory.proofs.Sums.{sum-le}
 use Rattle.proposal.specs.Proposals.{proposed}
 use Rattle.proposal.proofs.Answers.{promise-passes}
 use Rattle.timetable.specs.Decimal.{decimal, decimalUpto}
-use Rattle.timetable.specs.OrderTable.{orderLine, orderLines, orderTextOf, orderRoom}
+use Rattle.timetable.specs.OrderTable.{orderLine, orderTextOf, orderRoom}
 use Rattle.timetable.proofs.Digits.{length-one, decimal-mono}
 use Rattle.timetable.proofs.Text.{length-joined}
 

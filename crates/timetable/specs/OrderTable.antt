@@ -5,7 +5,6 @@ use Rattle.plan.specs.declared.Plan.{Plan}
 use Rattle.plan.specs.declared.Constraint.{Constraint}
 use Rattle.plan.specs.Rules.{mostTasks}
 use Rattle.plan.specs.Refusals.{entryAt, refused}
-use Rattle.proposal.specs.declared.Proposal.{Proposal}
 use Rattle.proposal.specs.Proposals.{proposed}
 use Rattle.timetable.specs.declared.Written.{Written}
 use Rattle.timetable.specs.Table.{field, joined, answered, bytesAfter}

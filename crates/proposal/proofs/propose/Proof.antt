@@ -1,10 +1,7 @@
 -- `proposal::propose` meets its contract. Assumes nothing.
-use mathlib.Core.Path.{_≡_, _∙_}
+use mathlib.Core.Path.{_∙_}
 use borrow.Author.Needs.{needs}
-use Rattle.plan.specs.declared.Plan.{Plan}
 use Rattle.ranks.proofs.Callers.{Ranked, not-refused, ranks-low}
-use Rattle.proposal.specs.declared.Proposal.{Proposal}
-use Rattle.proposal.specs.Proposals.{proposed}
 use Rattle.proposal.proofs.Answers.{says-no, says-yes, keys-apart, orderly, promise-passes, promise-in-time}
 use Rattle.proposal.proofs.propose.Statement.{statement}
 use Rattle.proposal.proofs.propose.Tie as tie

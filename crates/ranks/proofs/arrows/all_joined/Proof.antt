@@ -4,7 +4,7 @@ use mathlib.Core.Bool.{true, false}
 use mathlib.Core.Logic.{⊎-elim}
 use Prim.Native.Nat.{ℕ, _-_}
 use borrow.Author.Needs.{needs}
-use Rattle.task_set.specs.Sets.{insert, subset}
+use Rattle.task_set.specs.Sets.{subset}
 use Rattle.task_set.proofs.Upto.{Upto, upto-more, upto-end}
 use Rattle.ranks.specs.Steps.{joined}
 use Rattle.ranks.proofs.Joining.{joined-next}

@@ -1,11 +1,9 @@
 -- `ranks::arrows::successors` meets its contract. Assumes nothing.
-use mathlib.Core.Path.{_≡_, sym, ap, _∙_}
-use mathlib.Core.Bool.{Bool, true, false, cond}
+use mathlib.Core.Path.{ap, _∙_}
 use mathlib.Core.Logic.{⊎-elim}
 use Prim.Native.Nat.{ℕ, _-_}
 use borrow.Author.Needs.{needs}
-use lib.Bits.{bitOr}
-use Rattle.task_set.specs.Sets.{insert, intersect, has}
+use Rattle.task_set.specs.Sets.{intersect, has}
 use Rattle.task_set.proofs.Members.{one-meets}
 use Rattle.ranks.specs.Arrows.{arrow}
 use Rattle.ranks.proofs.Collecting.{Collected, collected-none, collected-more, collected-all}

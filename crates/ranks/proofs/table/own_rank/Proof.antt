@@ -1,8 +1,6 @@
 -- `ranks::table::own_rank` meets its contract: the types passed are counted and their times summed. Assumes nothing.
-use mathlib.Core.Path.{_∙_, sym, ap}
-use mathlib.Core.Bool.{Bool, cond}
 use mathlib.Core.Logic.{⊎-elim}
-use Prim.Native.Nat.{ℕ, _-_, _+_}
+use Prim.Native.Nat.{_-_}
 use native.Mathlib.Omega.{arith}
 use borrow.Author.Needs.{needs}
 use borrow.Author.Tests.{lt-ltb, le-ltb}
