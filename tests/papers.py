@@ -82,7 +82,7 @@ def check_theorems():
     theorems = re.split(r"\*\*Theorem \d+ ", text)[1:]
     must(len(theorems) == 15, "METHOD: the theorems")
     for formal in re.findall(r"\*Formal:\*(.*?)\n\n", text, re.S):
-        for name in re.findall(r"`([a-zA-Z-]+)`", formal):
+        for name in re.findall(r"`(\w+)`", formal):
             if name != "ensures":
                 must(any_file("*/*/*.antt", rf"^\s*(unfoldable |abbrev )?pub (record )?{name}[\s:]"), f"METHOD: there is no {name}")
 

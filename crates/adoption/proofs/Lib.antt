@@ -3,5 +3,3 @@
 pub mod Reading
 -- how the code comes to its answer
 pub mod Answers
--- steps of the walks by hand
-pub mod Walks

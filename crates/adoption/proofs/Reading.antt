@@ -26,6 +26,10 @@ unfolding kept
 past_kept n k l m =
     by_test (ltb n most_tasks) (λ e. rw e at l) (λ e. absurd (let h : most_tasks ≤ k = rw e at l in omega arith))
 
+-- a field of the first i records
+abbrev pub column_to : List Record → (Record → ℕ) → ℕ → List ℕ
+column_to records field = filled_to most_tasks (λ k. field (get_or records k no_record)) 0
+
 module _ (records : List Record) where
   -- the first i records are copied
   unfoldable pub read_to : ℕ → List Record

@@ -1,4 +1,6 @@
 // Schedules that were worked out elsewhere (document 02, 5): taken over as a constraint, or refused.
+#![tactic(auto)]
+
 ghost use Rattle.std.specs.Prelude.{◌≡◌, ◌≤◌};
 ghost use Rattle.plan.specs.Refusals.{verdict};
 ghost use Rattle.runs.specs.Running.{bound};

@@ -28,8 +28,8 @@ fn blank() -> [Record; MOST_TASKS]
 
 // The columns of 64 records, of a list of so many.
 fn columns(len: usize, records: [Record; MOST_TASKS]) -> Schedule
-    ensures* { λ r. ⌜ r ≡ schedule_of len (column (λ r. r.task) records) (column (λ r. r.unit_type) records)
-        (column (λ r. r.start) records) (column (λ r. r.finish) records) ⌝ }
+    ensures { result ≡ schedule_of len (column (λ r. r.task) records) (column (λ r. r.unit_type) records)
+        (column (λ r. r.start) records) (column (λ r. r.finish) records) }
 {
     let mut tasks = [0; MOST_TASKS];
     let mut types = [0; MOST_TASKS];
@@ -53,7 +53,7 @@ fn columns(len: usize, records: [Record; MOST_TASKS]) -> Schedule
     }
 }
 
-// The one function that looks into the lent records: a reference to structs has no checked form, so it is proved by hand.
+// The one function that looks into the lent records.
 pub fn listed(records: &[Record]) -> Schedule
     ensures { result ≡ listed_of records.now }
 {

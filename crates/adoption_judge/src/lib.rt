@@ -1,4 +1,6 @@
 // Whether a schedule is taken: 8 and 20 to 22, each over the whole list before the next.
+#![tactic(auto)]
+
 ghost use Rattle.std.specs.Prelude.{◌≡◌, ◌||◌, not, ◌+◌, ◌≤◌, eqb, leb};
 ghost use Rattle.task_set.specs.Bounded.{first};
 ghost use Rattle.plan.specs.Refusals.{constraint_of, refused as refusedAt};
@@ -94,7 +96,8 @@ pub fn judge(p: Plan, s: Schedule) -> Verdict
     if v.number == 8 {
         return refused(8, 0);
     }
-    if v.number == 9 {
+    let not_each_once = v.number == 9;
+    if not_each_once {
         return refused(20, v.place);
     }
     let types = p.types;

@@ -1,4 +1,6 @@
 // 22 of a schedule: each start waits for the predecessors and the not-before instant, and finds a unit.
+#![tactic(auto)]
+
 ghost use Rattle.std.specs.Prelude.{◌≡◌, ◌&&◌, cond, ◌<◌, ◌≤◌, ℕ, eqb, leb, ltb, get_or};
 ghost use Rattle.task_set.specs.Bounded.{first};
 ghost use Rattle.task_set.specs.Sets.{insert};

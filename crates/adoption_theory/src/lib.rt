@@ -1,12 +1,14 @@
 // Schedules that were worked out elsewhere (document 02, 5): what they are, when one is taken, and what its constraint is.
 // Definitions in specs/, laws in proofs/, and one function.
+#![tactic(auto)]
+
 ghost use Rattle.std.specs.Prelude.{◌≡◌};
 
 use plan::{Constraint, MOST_TASKS};
 
 // A task, the type of its unit, and when it starts and finishes.
 #[repr(C)]
-#[derive(Drop)]
+#[derive(Clone, Copy)]
 pub struct Record {
     pub task: u32,
     pub unit_type: u32,
@@ -16,7 +18,7 @@ pub struct Record {
 
 // A list of records by columns: how many there are, and what each of the first 64 says.
 #[repr(C)]
-#[derive(Drop)]
+#[derive(Clone, Copy)]
 pub struct Schedule {
     pub len: usize,
     pub tasks: [u32; MOST_TASKS],

@@ -1,5 +1,7 @@
 // The answer to a plan text: its timetable of worst times or the line of its refusal (document 01, "Timetable and program");
 // or in place of the timetable its margins (document 02, 2), or the C lines of the order that the bench proposes (document 02, 8).
+#![tactic(auto)]
+
 ghost use Rattle.std.specs.Prelude.{◌≡◌, length};
 ghost use Rattle.plan.specs.Buffers.{at_start};
 ghost use Rattle.bench_answer.specs.Answer.{answer_text};

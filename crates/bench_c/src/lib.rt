@@ -1,4 +1,6 @@
 // The calls for programs in C, C++ and Python (include/benchplan.h): each is a library's own, with the library's own contract.
+#![tactic(auto)]
+
 ghost use Rattle.std.specs.Prelude.{◌≡◌, ◌+◌, ◌≤◌, length};
 ghost use Rattle.plan.specs.Buffers.{at_start};
 ghost use Rattle.plan.specs.Refusals.{verdict};
@@ -81,7 +83,6 @@ pub extern "C" fn bench_margins(p: Plan, c: Constraint) -> Slacks
     slack::slacks_of(p, c)
 }
 
-// A reference to structs has no checked form: this is proved by hand.
 #[unsafe(no_mangle)]
 pub extern "C" fn bench_adopt(p: Plan, records: &[Record]) -> Adoption
     ensures value { result ≡ adopted p (listed records.now) }

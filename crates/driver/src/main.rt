@@ -29,32 +29,47 @@
 // index is 0 where the part is one number.
 // Any other line answers bad and changes nothing; so does a line of 1,024 bytes or more, as one line. A first line that is
 // no count answers bad, and no text is read. Input is read in pieces of 65,536 bytes: an answer may wait for later commands.
-use driver_answers::commands;
+#![tactic(auto)]
+
 use driver_answers::commands::Kept;
+use driver_answers::output::Answer;
+use driver_answers::{commands, output};
 use driver_input::input::Window;
 use driver_input::{fields, input};
+use std::io;
+use std::io::{BufWriter, Read, Write};
 
 // After a line: what is unused of the input, and what is kept.
-#[derive(Drop)]
+#[derive(Clone, Copy)]
 struct Standing {
     window: Window,
     kept: Kept,
 }
 
-// The text of n bytes. A window that is full and holds less than n has more than a text may have.
-fn text(bytes: &mut [u8; input::WIDTH], w: Window, n: u64) -> Standing {
-    let full = input::filled(bytes, w);
+// The text of n bytes. A window that is full and holds less than n has more than a text may have. The answer goes out before
+// the rest of the text is waited for.
+fn text<R: Read, W: Write>(
+    reader: &mut R,
+    writer: &mut W,
+    out: &mut Answer,
+    bytes: &mut [u8; input::WIDTH],
+    w: Window,
+    n: u64,
+) -> io::Result<Standing> {
+    let full = input::filled(reader, bytes, w)?;
     let start = full.from;
     let end = input::front(full, n);
-    let kept = text_between(bytes, start, end);
-    let window = input::skipped(bytes, full, n);
-    Standing { window, kept }
+    let kept = text_between(out, bytes, start, end);
+    output::write(writer, out)?;
+    writer.flush()?;
+    let window = input::skipped(reader, bytes, full, n)?;
+    Ok(Standing { window, kept })
 }
 
-fn text_between(bytes: &[u8], start: usize, end: usize) -> Kept {
+fn text_between(out: &mut Answer, bytes: &[u8], start: usize, end: usize) -> Kept {
     if end <= bytes.len() {
         if start <= end {
-            return commands::text(&bytes[start..end]);
+            return commands::text(out, &bytes[start..end]);
         }
     }
     commands::nothing()
@@ -70,59 +85,76 @@ fn is_count(bytes: &[u8], start: usize, end: usize, values: &mut [u64; fields::M
     false
 }
 
-fn first_line(bytes: &mut [u8; input::WIDTH]) -> Standing {
-    let w = input::ready(bytes, input::new());
+fn first_line<R: Read, W: Write>(
+    reader: &mut R,
+    writer: &mut W,
+    out: &mut Answer,
+    bytes: &mut [u8; input::WIDTH],
+) -> io::Result<Standing> {
+    let w = input::ready(reader, bytes, input::new())?;
     let line = input::next_line(bytes, w);
     let mut values = [0u64; fields::MOST];
     let ok = is_count(bytes, line.start, line.end, &mut values);
     let window = line.rest;
     if ok & line.fits {
-        return text(bytes, window, values[0]);
+        return text(reader, writer, out, bytes, window, values[0]);
     }
-    commands::bad();
+    commands::bad(out);
     let kept = commands::nothing();
-    Standing { window, kept }
+    Ok(Standing { window, kept })
 }
 
-fn command(bytes: &[u8], start: usize, end: usize, kept: Kept) -> Kept {
+fn command(out: &mut Answer, bytes: &[u8], start: usize, end: usize, kept: Kept) -> Kept {
     if end <= bytes.len() {
         if start <= end {
-            return commands::line(kept, &bytes[start..end]);
+            return commands::line(out, kept, &bytes[start..end]);
         }
     }
     kept
 }
 
 // A line and its answer. Of a line that is too long the first piece alone has an answer.
-fn turn(bytes: &mut [u8; input::WIDTH], w: Window, kept: Kept) -> Standing {
+fn turn(out: &mut Answer, bytes: &[u8; input::WIDTH], w: Window, kept: Kept) -> Standing {
     let line = input::next_line(bytes, w);
     let window = line.rest;
     if line.fits {
-        let next = command(bytes, line.start, line.end, kept);
+        let next = command(out, bytes, line.start, line.end, kept);
         return Standing { window, kept: next };
     }
     if !w.within {
-        commands::bad();
+        commands::bad(out);
     }
     Standing { window, kept }
 }
 
-// No more lines than 2 to the power of 62.
-fn session(bytes: &mut [u8; input::WIDTH], begun: Standing) {
+// Answers go out before input is waited for. No more lines than a u64 counts.
+fn session<R: Read, W: Write>(
+    reader: &mut R,
+    writer: &mut W,
+    out: &mut Answer,
+    bytes: &mut [u8; input::WIDTH],
+    begun: Standing,
+) -> io::Result<()> {
     let mut t = begun;
-    let mut left: u64 = 1 << 62;
-    while 0 < left {
-        let w = input::ready(bytes, t.window);
-        if input::is_empty(w) {
-            return;
+    for _ in 0..u64::MAX {
+        output::write(writer, out)?;
+        if !input::is_ready(t.window) {
+            writer.flush()?;
         }
-        t = turn(bytes, w, t.kept);
-        left -= 1;
+        let w = input::ready(reader, bytes, t.window)?;
+        if input::is_empty(w) {
+            break;
+        }
+        t = turn(out, bytes, w, t.kept);
     }
+    writer.flush()
 }
 
-fn main() {
-    let mut bytes = io::large_buffer();
-    let begun = first_line(&mut bytes);
-    session(&mut bytes, begun);
+fn main(rt: HostRuntime) -> io::Result<()> {
+    let mut reader = rt.stdin();
+    let mut writer = BufWriter::new(rt.alloc(), rt.stdout())?;
+    let mut out = output::nothing();
+    let mut bytes = [0; input::WIDTH];
+    let begun = first_line(&mut reader, &mut writer, &mut out, &mut bytes)?;
+    session(&mut reader, &mut writer, &mut out, &mut bytes, begun)
 }

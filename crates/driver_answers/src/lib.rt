@@ -1,4 +1,6 @@
 // The commands of the driver, what is kept between them, and the answers that it prints.
+#![tactic(auto)]
+
 pub mod commands;
-mod output;
+pub mod output;
 mod schedules;

@@ -1,9 +1,25 @@
-// Answers: a line is put together in a buffer and written at once.
-use libc::STDOUT_FILENO;
+// Answers: the lines of an answer are put together in a buffer and written at once.
+use itoa::Buffer;
 use plan::MOST_TASKS;
+use std::io;
+use std::io::Write;
 
-// More than the longest line: a name and 240 numbers, of which a third may have 20 digits.
+// More than the longest answer: a name and 240 numbers, of which a third may have 20 digits.
 pub const WIDTH: usize = 4096;
+
+// The first `len` bytes are what is put together.
+#[derive(Drop)]
+pub struct Answer {
+    pub bytes: [u8; WIDTH],
+    pub len: usize,
+}
+
+pub fn nothing() -> Answer {
+    Answer {
+        bytes: [0; WIDTH],
+        len: 0,
+    }
+}
 
 // What stands past the end of the buffer is left out.
 fn put_byte(out: &mut [u8; WIDTH], at: usize, b: u8) -> usize {
@@ -26,10 +42,9 @@ pub fn put_text(out: &mut [u8; WIDTH], at: usize, text: &[u8]) -> usize {
 
 // A tab and a number.
 pub fn put_number(out: &mut [u8; WIDTH], at: usize, n: u64) -> usize {
-    let mut digits = [0u8; 20];
-    let k = io::decimal(n, &mut digits);
+    let mut digits = Buffer::new();
     let end = put_byte(out, at, b'\t');
-    put_text(out, end, &digits[..k])
+    put_text(out, end, digits.format(n).as_bytes())
 }
 
 // A tab, and the sign of a number that is below zero.
@@ -43,10 +58,9 @@ fn put_sign(out: &mut [u8; WIDTH], at: usize, negative: bool) -> usize {
 // A tab and a number that may be below zero.
 pub fn put_signed(out: &mut [u8; WIDTH], at: usize, x: i64) -> usize {
     let s = slack::parts_of(x);
-    let mut digits = [0u8; 20];
-    let k = io::decimal(s.size as u64, &mut digits);
+    let mut digits = Buffer::new();
     let end = put_sign(out, at, s.negative);
-    put_text(out, end, &digits[..k])
+    put_text(out, end, digits.format(s.size as u64).as_bytes())
 }
 
 pub fn put_each_signed(out: &mut [u8; WIDTH], at: usize, values: &[i64; MOST_TASKS]) -> usize {
@@ -98,21 +112,29 @@ pub fn put_entries<'a>(
     end
 }
 
-fn write_front(out: &[u8], n: usize) {
-    if n <= out.len() {
-        io::write_all(STDOUT_FILENO, &out[..n]);
+fn write_front<W: Write>(w: &mut W, bytes: &[u8], n: usize) -> io::Result<()> {
+    if n <= bytes.len() {
+        return w.write_all(&bytes[..n]);
     }
+    Ok(())
 }
 
-pub fn write_line(out: &mut [u8; WIDTH], at: usize) {
-    let end = put_byte(out, at, b'\n');
-    write_front(out, end);
+// Writes what is put together.
+pub fn write<W: Write>(w: &mut W, out: &mut Answer) -> io::Result<()> {
+    write_front(w, &out.bytes, out.len)?;
+    out.len = 0;
+    Ok(())
+}
+
+// Ends a line whose bytes end at a position.
+pub fn write_line(out: &mut Answer, at: usize) {
+    out.len = put_byte(&mut out.bytes, at, b'\n');
 }
 
 // Bytes as a line.
-pub fn write_text(text: &[u8]) {
-    io::write_all(STDOUT_FILENO, text);
-    io::write_all(STDOUT_FILENO, b"\n");
+pub fn write_text(out: &mut Answer, text: &[u8]) {
+    let end = put_text(&mut out.bytes, out.len, text);
+    write_line(out, end);
 }
 
 // A number and a place.
@@ -127,15 +149,13 @@ pub fn put_verdict(out: &mut [u8; WIDTH], name: &[u8], number: u32, place: usize
     put_refusal(out, named, number, place)
 }
 
-pub fn write_verdict(name: &[u8], number: u32, place: usize) {
-    let mut out = [0u8; WIDTH];
-    let end = put_verdict(&mut out, name, number, place);
-    write_line(&mut out, end);
+pub fn write_verdict(out: &mut Answer, name: &[u8], number: u32, place: usize) {
+    let end = put_verdict(&mut out.bytes, name, number, place);
+    write_line(out, end);
 }
 
-pub fn write_valued(name: &[u8], number: u32, place: usize, value: u64) {
-    let mut out = [0u8; WIDTH];
-    let end = put_verdict(&mut out, name, number, place);
-    let valued = put_number(&mut out, end, value);
-    write_line(&mut out, valued);
+pub fn write_valued(out: &mut Answer, name: &[u8], number: u32, place: usize, value: u64) {
+    let end = put_verdict(&mut out.bytes, name, number, place);
+    let valued = put_number(&mut out.bytes, end, value);
+    write_line(out, valued);
 }

@@ -1,5 +1,6 @@
 // The records of a schedule, put one by one, and what becomes of them.
 use crate::output;
+use crate::output::Answer;
 use adoption_theory::Schedule;
 use driver_input::fields;
 use plan::{Constraint, MOST_TASKS};
@@ -40,12 +41,11 @@ pub fn with(mut s: Schedule, values: &[u64; fields::MOST]) -> Schedule {
 }
 
 // Number and place, and the constraint: its length and each entry.
-pub fn write_order(name: &[u8], number: u32, place: usize, c: Constraint) {
+pub fn write_order(out: &mut Answer, name: &[u8], number: u32, place: usize, c: Constraint) {
     let order = c.order;
     let chosen = c.chosen;
-    let mut out = [0u8; output::WIDTH];
-    let named = output::put_verdict(&mut out, name, number, place);
-    let counted = output::put_number(&mut out, named, c.len as u64);
-    let end = output::put_entries(&mut out, counted, &order, &chosen);
-    output::write_line(&mut out, end);
+    let named = output::put_verdict(&mut out.bytes, name, number, place);
+    let counted = output::put_number(&mut out.bytes, named, c.len as u64);
+    let end = output::put_entries(&mut out.bytes, counted, &order, &chosen);
+    output::write_line(out, end);
 }

@@ -1,5 +1,8 @@
-// Standard input, through a window of bytes that is filled again and again.
-use libc::STDIN_FILENO;
+// The input, through a window of bytes that is filled again and again.
+ghost use Rattle.std.specs.Prelude.{◌≤◌, length, IfOk};
+
+use std::io;
+use std::io::Read;
 
 pub const WIDTH: usize = 65536;
 
@@ -8,7 +11,7 @@ const LONGEST: usize = 1024;
 
 // The bytes from `from` up to `to` are read and not yet used. A window that isn't full was filled last at the end of the
 // input. `within` says that the bytes go on with a line that was too long.
-#[derive(Drop)]
+#[derive(Clone, Copy)]
 pub struct Window {
     pub from: usize,
     pub to: usize,
@@ -52,48 +55,63 @@ fn shift(bytes: &mut [u8; WIDTH], from: usize, n: usize) {
     }
 }
 
-// Reads to the end of the window, or of the input.
-fn read_behind(bytes: &mut [u8], n: usize) -> usize {
-    if n <= bytes.len() {
-        return io::read_full(STDIN_FILENO, &mut bytes[n..]);
+// Reads until the bytes are full or the input ends, and answers how many it read.
+fn read_full<R: Read>(reader: &mut R, bytes: &mut [u8]) -> io::Result<usize>
+    ensures { IfOk result (λ n. n ≤ length bytes.new) }
+{
+    let mut done = 0;
+    while done < bytes.len() {
+        let n = reader.read(&mut bytes[done..])?;
+        if n == 0 {
+            return Ok(done);
+        }
+        done += n;
     }
-    0
+    Ok(done)
+}
+
+// Reads to the end of the window, or of the input.
+fn read_behind<R: Read>(reader: &mut R, bytes: &mut [u8], n: usize) -> io::Result<usize> {
+    if n <= bytes.len() {
+        return read_full(reader, &mut bytes[n..]);
+    }
+    Ok(0)
 }
 
 // The unused bytes at the front, and as many more as the window holds.
-pub fn filled(bytes: &mut [u8; WIDTH], w: Window) -> Window {
+pub fn filled<R: Read>(reader: &mut R, bytes: &mut [u8; WIDTH], w: Window) -> io::Result<Window> {
     let from = w.from;
     let to = w.to;
     if WIDTH < to {
-        return w;
+        return Ok(w);
     }
     if to < from {
-        return w;
+        return Ok(w);
     }
     let have = to - from;
     shift(bytes, from, have);
-    let more = read_behind(bytes, have);
+    let more = read_behind(reader, bytes, have)?;
     if WIDTH - have < more {
-        return w;
+        return Ok(w);
     }
-    Window {
+    Ok(Window {
         from: 0,
         to: have + more,
         within: w.within,
-    }
+    })
 }
 
-// A window that holds a whole line, if its line isn't too long.
-pub fn ready(bytes: &mut [u8; WIDTH], w: Window) -> Window {
-    let from = w.from;
-    let to = w.to;
-    if to < WIDTH {
-        return w;
+// Whether a window holds a whole line, if its line isn't too long.
+pub fn is_ready(w: Window) -> bool {
+    (w.to < WIDTH) | (w.from < WIDTH - LONGEST)
+}
+
+// The window, filled if it wasn't ready.
+pub fn ready<R: Read>(reader: &mut R, bytes: &mut [u8; WIDTH], w: Window) -> io::Result<Window> {
+    if is_ready(w) {
+        return Ok(w);
     }
-    if from < WIDTH - LONGEST {
-        return w;
-    }
-    filled(bytes, w)
+    filled(reader, bytes, w)
 }
 
 // The first newline of the bytes from `from` up to `to`, or `to`.
@@ -148,23 +166,28 @@ fn is_short(start: usize, end: usize) -> bool {
 }
 
 // The window after n bytes more of the input, or at its end.
-pub fn skipped(bytes: &mut [u8; WIDTH], w: Window, n: u64) -> Window {
+pub fn skipped<R: Read>(
+    reader: &mut R,
+    bytes: &mut [u8; WIDTH],
+    w: Window,
+    n: u64,
+) -> io::Result<Window> {
     let mut left = n;
     let mut at = w;
     while 0 < left {
         let from = at.from;
         let to = at.to;
         if to <= from {
-            return at;
+            return Ok(at);
         }
         let have = (to - from) as u64;
         if left <= have {
-            return moved(at, left);
+            return Ok(moved(at, left));
         }
         left -= have;
-        at = filled(bytes, moved(at, have));
+        at = filled(reader, bytes, moved(at, have))?;
     }
-    at
+    Ok(at)
 }
 
 // Past n unused bytes, or past all of them.

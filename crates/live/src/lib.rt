@@ -1,4 +1,6 @@
 // The live run: start and tick (document 01, "Running rules", Start, Tick).
+#![tactic(auto)]
+
 ghost use Rattle.std.specs.Prelude.{◌≡◌};
 ghost use Rattle.live.specs.States.{no_state};
 ghost use Rattle.live.specs.Ticks.{started, ticked};
@@ -11,7 +13,7 @@ use plan::{Constraint, Plan};
 // A run state: the instant, how many tasks of the order have started, the set of finished tasks, and each task's start
 // and finish instant, by task number, 0 until it has one.
 #[repr(C)]
-#[derive(Drop)]
+#[derive(Clone, Copy)]
 pub struct State {
     pub plan: Plan,
     pub constraint: Constraint,

@@ -1,4 +1,6 @@
 // Sets of tasks that stand at the first positions of an order.
+#![tactic(auto)]
+
 ghost use Rattle.std.specs.Prelude.{◌≡◌, cond, ◌<◌, ◌≤◌, ◌^◌};
 ghost use Rattle.task_set.specs.Sets.{insert};
 ghost use Rattle.plan.specs.Steps.{Positions};
@@ -24,7 +26,7 @@ fn inserted_if(hit: bool, s: u64, t: usize) -> u64
 
 // The started tasks; those whose worst time has come; those whose worst time comes at the next instant; and the tasks of
 // the order by their chosen type.
-#[derive(Drop)]
+#[derive(Clone, Copy)]
 pub struct Marks {
     pub started: u64,
     pub spent: u64,

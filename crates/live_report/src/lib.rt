@@ -1,4 +1,6 @@
 // What a report on a sound state is refused with, and the finishes of the next instant.
+#![tactic(auto)]
+
 mod step;
 mod verdicts;
 

@@ -1,10 +1,9 @@
 -- The walk on sets and arrays, one position at a time, as its loop goes. Assumes nothing.
 use mathlib.Core.Path.{◌≡◌, refl, sym}
-use mathlib.Core.Bool.{Bool, true, false, not}
+use mathlib.Core.Bool.{Bool, true, false}
 use mathlib.Core.List.{List}
 use Prim.Native.Nat.{ℕ, suc, ◌+◌, ◌-◌, ◌≤◌, ◌<◌}
 use native.Mathlib.Omega.{arith}
-use borrow.Author.Tests.{not-true, not-false}
 use lib.ListN.{get_or, set}
 use Rattle.task_set.specs.Sets.{insert}
 use Rattle.plan.specs.Rules.{predecessors_of, release_of}
@@ -35,13 +34,13 @@ module _ (units predecessors releases order chosen users : List ℕ) (instant fi
           (get_or users (entry_at chosen w.begun) 0) w.running (get_or units (entry_at chosen w.begun) 0) ≡ b
       answer = rw (← e, ← g) (sym f)
 
-      pub walk_stops : not b ≡ true → w ≡ left (len - w.begun) w
+      pub walk_stops : b ≡ false → w ≡ left (len - w.begun) w
       unfolding walk_from
-      walk_stops h = rw (one_more, answer, not-true b h) refl
+      walk_stops h = rw (one_more, answer, h) refl
 
-      pub walk_goes : not b ≡ false → {r : ℕ} → r ≡ insert w.running (entry_at order w.begun)
+      pub walk_goes : b ≡ true → {r : ℕ} → r ≡ insert w.running (entry_at order w.begun)
           → left (len - (w.begun + 1))
           (record { begun = w.begun + 1; running = r; starts = set w.starts (entry_at order w.begun) instant })
           ≡ left (len - w.begun) w
       unfolding walk_from
-      walk_goes h q = rw (q, one_more, answer, not-false b h) refl
+      walk_goes h q = rw (q, one_more, answer, h) refl

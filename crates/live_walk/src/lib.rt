@@ -1,4 +1,6 @@
 // The walk of an instant, on the sets and arrays of a run state.
+#![tactic(auto)]
+
 ghost use Rattle.std.specs.Prelude.{◌≡◌, ◌-◌};
 ghost use Rattle.plan.specs.Steps.{Positions};
 ghost use Rattle.live_walk.specs.Steps.{may_go, walk_from};
@@ -54,7 +56,9 @@ pub fn walk<'a>(
         let k = chosen[n];
         let s = plan::predecessors_of(predecessors, t);
         let release = plan::release_of(releases, t);
-        if !may_go(s, finished, release, instant, users[k], running, units[k]) {
+        let may = may_go(s, finished, release, instant, users[k], running, units[k]);
+        let stops = !may;
+        if stops {
             return Walked {
                 begun: n,
                 running,

@@ -1,4 +1,6 @@
 // What a plan and a constraint are, their limits and what they keep (document 01, "The plan").
+#![tactic(auto)]
+
 ghost use Rattle.std.specs.Prelude.{◌≡◌};
 ghost use Rattle.plan.specs.Refusals.{no_constraint, no_plan};
 ghost use Rattle.plan.specs.Rules.{deadline_of, instant_of, pair_place, predecessors_of, release_of, time_of, usable};
@@ -23,7 +25,7 @@ pub const LAST_INSTANT: u32 = LATEST_RELEASE + MOST_TASKS as u32 * LONGEST_TIME;
 // Times are kept task by task: pair_index alone knows where one lies. A deadline is 0 for a task without, and so is a
 // release, the not-before instant of a task.
 #[repr(C)]
-#[derive(Drop)]
+#[derive(Clone, Copy)]
 pub struct Plan {
     pub types: usize,
     pub units: [u32; MOST_TYPES],
@@ -37,7 +39,7 @@ pub struct Plan {
 
 // The execution order and the chosen type of each task: the first `len` entries of two arrays.
 #[repr(C)]
-#[derive(Drop)]
+#[derive(Clone, Copy)]
 pub struct Constraint {
     pub len: usize,
     pub order: [usize; MOST_TASKS],
@@ -46,7 +48,7 @@ pub struct Constraint {
 
 // The number and the place of a refusal; 0 and 0 where nothing is refused.
 #[repr(C)]
-#[derive(Drop)]
+#[derive(Clone, Copy)]
 pub struct Verdict {
     pub number: u32,
     pub place: usize,

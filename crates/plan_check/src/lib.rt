@@ -1,4 +1,6 @@
 // The check: the plan's rules, then three passes over the order of the constraint.
+#![tactic(auto)]
+
 ghost use Rattle.std.specs.Prelude.{◌≡◌, cond, ltb, ◌≤◌};
 ghost use Rattle.task_set.specs.Bounded.{first};
 ghost use Rattle.plan.specs.Rules.{most_tasks};

@@ -1,4 +1,6 @@
 // The rules of a plan (document 01, "The plan").
+#![tactic(auto)]
+
 ghost use Rattle.std.specs.Prelude.{◌≡◌, ◌<◌, ◌≤◌};
 ghost use Rattle.task_set.specs.Bounded.{all};
 ghost use Rattle.plan.specs.Refusals.{plan_of};

@@ -1,4 +1,6 @@
 // Reads a plan text (document 01, "The plan text").
+#![tactic(auto)]
+
 ghost use Rattle.std.specs.Prelude.{◌≡◌};
 ghost use Rattle.plan_text.specs.Reading.{nothing};
 ghost use Rattle.plan_text.specs.Text.{read_text, refused};

@@ -1,4 +1,6 @@
 // The bench proposes the order (document 02, 8): a plan alone gives a constraint, or is refused.
+#![tactic(auto)]
+
 ghost use Rattle.std.specs.Prelude.{◌≡◌, ◌≤◌};
 ghost use Rattle.plan.specs.Refusals.{no_constraint, verdict};
 ghost use Rattle.runs.specs.Running.{bound};
@@ -29,7 +31,8 @@ pub fn propose(p: Plan) -> Proposal
     ensures in_time { result.number ≡ 0 → bound p result.constraint ≤ greatest_finish (schedule_by p) }
 {
     let r = ranks::ranks(p);
-    if r.number != 0 {
+    let no_ranks = r.number != 0;
+    if no_ranks {
         return refused(r.number);
     }
     let tasks = p.tasks;

@@ -1,5 +1,7 @@
 // The unit that a task takes: of the units on which it finishes first the one with the lowest number. Unit u of type k has the
 // number 8 k + u.
+#![tactic(auto)]
+
 ghost use Rattle.std.specs.Prelude.{◌≡◌, ◌+◌, ◌*◌, ◌<◌, ◌≤◌, min, leb, get_or};
 ghost use Rattle.task_set.specs.Bounded.{first};
 ghost use Rattle.plan.specs.Rules.{most_types, most_units};

@@ -1,4 +1,6 @@
 // Ranks of tasks (document 02, 8): 840 times a task's average worst time, plus the greatest rank among its successors.
+#![tactic(auto)]
+
 ghost use Rattle.std.specs.Prelude.{◌≡◌};
 ghost use Rattle.ranks.specs.Ranks.{no_ranks, ranked};
 

@@ -22,7 +22,8 @@ fn own_rank(wcet: &[u32; MOST_PAIRS], t: usize) -> u64
     while k < MOST_TYPES {
         let time = plan::time_of(wcet, t, k);
         total += time as u64;
-        if 0 < time {
+        let usable = 0 < time;
+        if usable {
             types += 1;
         }
         k += 1;
@@ -94,7 +95,8 @@ fn greatest_rank<'a>(
     let one = rank(wcet, predecessors, tasks, t, table);
     let left = task_set::without_lowest(remaining);
     let most = greatest_rank(wcet, predecessors, tasks, left, table);
-    if one < most {
+    let others = one < most;
+    if others {
         return most;
     }
     one

@@ -1,4 +1,6 @@
 // Where the arrows of a plan lead (document 02, 8).
+#![tactic(auto)]
+
 ghost use Rattle.std.specs.Prelude.{◌≡◌, ◌≤◌};
 ghost use Rattle.task_set.specs.Sets.{set_of};
 ghost use Rattle.plan.specs.Rules.{most_tasks};

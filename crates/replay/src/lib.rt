@@ -1,4 +1,6 @@
 // Start, and then a tick for each report of a list (demand 3; document 01, "The bench book").
+#![tactic(auto)]
+
 ghost use Rattle.std.specs.Prelude.{◌≡◌, ◌≤◌, min, length};
 ghost use Rattle.plan.specs.Refusals.{refused as refusedBy};
 ghost use Rattle.plan.specs.Buffers.{fitted as fittedBy};

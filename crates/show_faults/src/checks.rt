@@ -2,6 +2,7 @@
 use plan::{MOST_TASKS, MOST_TYPES};
 use show_lines::lines;
 use show_words::{get, names, put};
+use std::alloc::AllocError;
 
 // The tasks of the plan without a line of this letter.
 fn without(text: &[u8], letter: u8, tasks: usize) -> u64 {
@@ -24,79 +25,99 @@ pub fn unlisted(text: &[u8]) -> u64 {
     )
 }
 
-fn have_or_has(set: u64) {
+fn have_or_has(out: &mut Vec<u8>, set: u64) -> Result<(), AllocError> {
     if task_set::member_count(set) == 1 {
-        put::text(b" has");
+        put::text(out, b" has")
     } else {
-        put::text(b" have");
+        put::text(out, b" have")
     }
 }
 
 // A plan that was read breaks a rule only by its tasks: there are none, or one is left out.
-pub fn no_plan(text: &[u8], tasks: usize) {
-    put::text(b"refused 8: ");
+pub fn no_plan(out: &mut Vec<u8>, text: &[u8], tasks: usize) -> Result<(), AllocError> {
+    put::text(out, b"refused 8: ")?;
     if text.len() == 0 {
-        put::text(b"the text is empty\n");
-        return;
+        return put::text(out, b"the text is empty\n");
     }
     if tasks == 0 {
-        put::text(b"there is no T line, so the plan has no task\n");
-        return;
+        return put::text(out, b"there is no T line, so the plan has no task\n");
     }
     let set = without(text, b'T', tasks);
-    names::tasks(set);
-    have_or_has(set);
+    names::tasks(out, set)?;
+    have_or_has(out, set)?;
     put::words(
+        out,
         b" no T line; tasks are numbered from 0 without a gap to the greatest, ",
         tasks as u64 - 1,
         b"",
-    );
-    put_whether_from_1(set);
-    lines::quote(text, lines::find_one(text, b'T', tasks as u64 - 1));
+    )?;
+    put_whether_from_1(out, set)?;
+    lines::quote(out, text, lines::find_one(text, b'T', tasks as u64 - 1))
 }
 
 // Only task 0 is missing where tasks are counted from 1.
-fn put_whether_from_1(set: u64) {
+fn put_whether_from_1(out: &mut Vec<u8>, set: u64) -> Result<(), AllocError> {
     if set == 1 {
-        put::text(b": are they counted from 1?\n");
+        put::text(out, b": are they counted from 1?\n")
     } else {
-        put::text(b": add what is missing, or number the tasks anew\n");
+        put::text(out, b": add what is missing, or number the tasks anew\n")
     }
 }
 
 // What a missing C line needs: its type, and behind which tasks it stands.
-fn put_needs(text: &[u8], set: u64, before: u64, t: usize) {
+fn put_needs(
+    out: &mut Vec<u8>,
+    text: &[u8],
+    set: u64,
+    before: u64,
+    t: usize,
+) -> Result<(), AllocError> {
     if task_set::contains(set, t) {
-        put::words(b"  task ", t as u64, b" can use ");
-        names::named(b"type ", b"types ", usable(text, t));
+        put::words(out, b"  task ", t as u64, b" can use ")?;
+        names::named(out, b"type ", b"types ", usable(text, t))?;
         if before != 0 {
-            put::text(b" and stands behind ");
-            names::tasks(before);
+            put::text(out, b" and stands behind ")?;
+            names::tasks(out, before)?;
         }
-        put::end_line();
+        put::end_line(out)?;
     }
+    Ok(())
 }
 
-fn put_all_needs(text: &[u8], predecessors: &[u64; MOST_TASKS], set: u64) {
+fn put_all_needs(
+    out: &mut Vec<u8>,
+    text: &[u8],
+    predecessors: &[u64; MOST_TASKS],
+    set: u64,
+) -> Result<(), AllocError> {
     let mut t = 0;
     while t < MOST_TASKS {
-        put_needs(text, set, plan::predecessors_of(predecessors, t), t);
+        put_needs(out, text, set, plan::predecessors_of(predecessors, t), t)?;
         t += 1;
     }
+    Ok(())
 }
 
 // No task of a text that was read stands in the order twice, so some stand in it nowhere.
-pub fn missing_choice(text: &[u8], predecessors: &[u64; MOST_TASKS], tasks: usize) {
-    put::text(b"refused 9: ");
+pub fn missing_choice(
+    out: &mut Vec<u8>,
+    text: &[u8],
+    predecessors: &[u64; MOST_TASKS],
+    tasks: usize,
+) -> Result<(), AllocError> {
+    put::text(out, b"refused 9: ")?;
     let set = without(text, b'C', tasks);
     if task_set::member_count(set) as usize == tasks {
-        put::text(b"there are no C lines; the order has one for each task\n");
-        return;
+        put::text(
+            out,
+            b"there are no C lines; the order has one for each task\n",
+        )?;
+        return Ok(());
     }
-    names::tasks(set);
-    have_or_has(set);
-    put::text(b" no C line; the order has one for each task\n");
-    put_all_needs(text, predecessors, set);
+    names::tasks(out, set)?;
+    have_or_has(out, set)?;
+    put::text(out, b" no C line; the order has one for each task\n")?;
+    put_all_needs(out, text, predecessors, set)
 }
 
 // The types on which a task can run.
@@ -113,24 +134,35 @@ fn usable(text: &[u8], t: usize) -> u64 {
 }
 
 // Where an entry of the order stands: its position, counted from 0, and its line.
-pub fn at_position(number: u32, position: usize, place: usize) {
-    put::words(b"refused ", number as u64, b" at position ");
-    put::words(b"", position as u64, b" of the order, line ");
-    put::words(b"", place as u64, b": ");
+pub fn at_position(
+    out: &mut Vec<u8>,
+    number: u32,
+    position: usize,
+    place: usize,
+) -> Result<(), AllocError> {
+    put::words(out, b"refused ", number as u64, b" at position ")?;
+    put::words(out, b"", position as u64, b" of the order, line ")?;
+    put::words(out, b"", place as u64, b": ")
 }
 
 pub fn unusable_type<'a>(
+    out: &mut Vec<u8>,
     text: &[u8],
     order: &'a [usize; MOST_TASKS],
     chosen: &'a [usize; MOST_TASKS],
     position: usize,
-) {
+) -> Result<(), AllocError> {
     let t = get::entry(order, position);
     let place = lines::find_one(text, b'C', t as u64);
-    at_position(10, position, place);
-    put::words(b"task ", t as u64, b" has no T line for type ");
-    put::words(b"", get::entry(chosen, position) as u64, b"; it can use ");
-    names::named(b"type ", b"types ", usable(text, t));
-    put::end_line();
-    lines::quote(text, place);
+    at_position(out, 10, position, place)?;
+    put::words(out, b"task ", t as u64, b" has no T line for type ")?;
+    put::words(
+        out,
+        b"",
+        get::entry(chosen, position) as u64,
+        b"; it can use ",
+    )?;
+    names::named(out, b"type ", b"types ", usable(text, t))?;
+    put::end_line(out)?;
+    lines::quote(out, text, place)
 }

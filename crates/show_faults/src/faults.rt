@@ -4,103 +4,129 @@ use plan::{LATEST_DEADLINE, LATEST_RELEASE, LONGEST_TIME, MOST_TASKS, MOST_TYPES
 use plan_text::{Line, LineForm};
 use show_lines::lines;
 use show_words::{cells, names, put};
+use std::alloc::AllocError;
 
 // Nothing where the number is in its range; a word of advice where it is above.
-fn range(name: &[u8], n: u32, least: u32, most: u32, above: &[u8]) {
+fn range(
+    out: &mut Vec<u8>,
+    name: &[u8],
+    n: u32,
+    least: u32,
+    most: u32,
+    above: &[u8],
+) -> Result<(), AllocError> {
     if (n < least) | (most < n) {
-        put::text(b"  ");
-        put::text(name);
-        put::words(b" ", n as u64, b" is not one of ");
-        put::words(b"", least as u64, b" to ");
-        put::number(most as u64);
+        put::text(out, b"  ")?;
+        put::text(out, name)?;
+        put::words(out, b" ", n as u64, b" is not one of ")?;
+        put::words(out, b"", least as u64, b" to ")?;
+        put::number(out, most as u64)?;
         if most < n {
-            put::text(above);
+            put::text(out, above)?;
         }
-        put::end_line();
+        put::end_line(out)?;
     }
+    Ok(())
 }
 
-fn task_range(t: u32) {
+fn task_range(out: &mut Vec<u8>, t: u32) -> Result<(), AllocError> {
     range(
+        out,
         b"task",
         t,
         0,
         MOST_TASKS as u32 - 1,
         b": tasks are numbered from 0",
-    );
+    )
 }
 
-fn type_range(k: u32) {
+fn type_range(out: &mut Vec<u8>, k: u32) -> Result<(), AllocError> {
     range(
+        out,
         b"type",
         k,
         0,
         MOST_TYPES as u32 - 1,
         b": types are numbered from 0",
-    );
+    )
 }
 
-fn time_range(name: &[u8], x: u32) {
-    range(name, x, 1, LONGEST_TIME, b": take a longer tick");
+fn time_range(out: &mut Vec<u8>, name: &[u8], x: u32) -> Result<(), AllocError> {
+    range(out, name, x, 1, LONGEST_TIME, b": take a longer tick")
 }
 
-fn times_range(t: u32, k: u32, best: u32, worst: u32) {
-    task_range(t);
-    type_range(k);
-    time_range(b"best time", best);
-    time_range(b"worst time", worst);
+fn times_range(out: &mut Vec<u8>, t: u32, k: u32, best: u32, worst: u32) -> Result<(), AllocError> {
+    task_range(out, t)?;
+    type_range(out, k)?;
+    time_range(out, b"best time", best)?;
+    time_range(out, b"worst time", worst)
 }
 
-fn arrow_range(from: u32, to: u32) {
-    task_range(from);
+fn arrow_range(out: &mut Vec<u8>, from: u32, to: u32) -> Result<(), AllocError> {
+    task_range(out, from)?;
     if to != from {
-        task_range(to);
+        task_range(out, to)?;
     }
+    Ok(())
 }
 
 // The numbers of a line that names an instant of a task.
-fn instant_range(t: u32, name: &[u8], x: u32, least: u32, most: u32) {
-    task_range(t);
-    range(name, x, least, most, b": take a longer tick");
+fn instant_range(
+    out: &mut Vec<u8>,
+    t: u32,
+    name: &[u8],
+    x: u32,
+    least: u32,
+    most: u32,
+) -> Result<(), AllocError> {
+    task_range(out, t)?;
+    range(out, name, x, least, most, b": take a longer tick")
 }
 
-fn deadline_range(t: u32, d: u32) {
-    instant_range(t, b"deadline", d, 1, LATEST_DEADLINE);
+fn deadline_range(out: &mut Vec<u8>, t: u32, d: u32) -> Result<(), AllocError> {
+    instant_range(out, t, b"deadline", d, 1, LATEST_DEADLINE)?;
     if d == 0 {
-        put::text(b"  a task without deadline has no D line\n");
+        put::text(out, b"  a task without deadline has no D line\n")?;
     }
+    Ok(())
 }
 
-fn ranges(line: Line) {
-    put::text(b"a number is out of its range\n");
+fn ranges(out: &mut Vec<u8>, line: Line) -> Result<(), AllocError> {
+    put::text(out, b"a number is out of its range\n")?;
     match line {
         Line::Units(k, n) => {
-            type_range(k);
-            range(b"count", n, 1, MOST_UNITS, b"");
+            type_range(out, k)?;
+            range(out, b"count", n, 1, MOST_UNITS, b"")
         }
-        Line::Times(t, k, b, w) => times_range(t, k, b, w),
-        Line::Arrow(from, to) => arrow_range(from, to),
-        Line::Deadline(t, d) => deadline_range(t, d),
-        Line::Release(t, i) => instant_range(t, b"not-before instant", i, 0, LATEST_RELEASE),
+        Line::Times(t, k, b, w) => times_range(out, t, k, b, w),
+        Line::Arrow(from, to) => arrow_range(out, from, to),
+        Line::Deadline(t, d) => deadline_range(out, t, d),
+        Line::Release(t, i) => instant_range(out, t, b"not-before instant", i, 0, LATEST_RELEASE),
         Line::Choice(t, k) => {
-            task_range(t);
-            type_range(k);
+            task_range(out, t)?;
+            type_range(out, k)
         }
     }
 }
 
-fn odds(line: Line) {
+fn odds(out: &mut Vec<u8>, line: Line) -> Result<(), AllocError> {
     match line {
         Line::Times(_, _, b, w) => {
-            put::words(b"the worst time, ", w as u64, b", is below the best time");
-            put::words(b", ", b as u64, b"; are they exchanged?\n");
+            put::words(
+                out,
+                b"the worst time, ",
+                w as u64,
+                b", is below the best time",
+            )?;
+            put::words(out, b", ", b as u64, b"; are they exchanged?\n")
         }
         Line::Arrow(from, _) => put::words(
+            out,
             b"the arrow leads from task ",
             from as u64,
             b" to itself; take it out\n",
         ),
-        _ => {}
+        _ => Ok(()),
     }
 }
 
@@ -116,8 +142,8 @@ fn next_kind(letter: u8) -> u8 {
     }
 }
 
-fn put_order() {
-    put::text(b": the order is U, T, A, D, N, C\n");
+fn put_order(out: &mut Vec<u8>) -> Result<(), AllocError> {
+    put::text(out, b": the order is U, T, A, D, N, C\n")
 }
 
 // No line has more kinds after it.
@@ -138,86 +164,108 @@ fn first_later(text: &[u8], letter: u8, place: usize) -> usize {
     0
 }
 
-fn put_letter(text: &[u8], place: usize) {
-    put::text(lines::part(lines::line(text, place), 0, 1));
+fn put_letter(out: &mut Vec<u8>, text: &[u8], place: usize) -> Result<(), AllocError> {
+    put::text(out, lines::part(lines::line(text, place), 0, 1))
 }
 
 // A U line behind a C line may be the first of a second plan.
-fn late(text: &[u8], place: usize) {
+fn late(out: &mut Vec<u8>, text: &[u8], place: usize) -> Result<(), AllocError> {
     let letter = lines::byte(lines::line(text, place), 0);
     let later = first_later(text, letter, place);
     let choice = lines::find_letter(text, b'C');
-    put_letter(text, place);
-    put::text(b" stands behind ");
-    put_letter(text, later);
+    put_letter(out, text, place)?;
+    put::text(out, b" stands behind ")?;
+    put_letter(out, text, later)?;
     if (letter == b'U') & (0 < choice) & (choice < place) {
-        put::text(b": does a second plan begin here? A text has one plan. If not, move");
+        put::text(
+            out,
+            b": does a second plan begin here? A text has one plan. If not, move",
+        )?;
     } else {
-        put::text(b"; move");
+        put::text(out, b"; move")?;
     }
-    put::words(b" the line up, above line ", later as u64, b"");
-    put_order();
-    lines::quote(text, later);
+    put::words(out, b" the line up, above line ", later as u64, b"")?;
+    put_order(out)?;
+    lines::quote(out, text, later)
 }
 
 // A task or a type that has no line of its own above this place, of this letter.
-fn absent(text: &[u8], place: usize, name: &[u8], letter: &[u8], n: u32) {
+fn absent(
+    out: &mut Vec<u8>,
+    text: &[u8],
+    place: usize,
+    name: &[u8],
+    letter: &[u8],
+    n: u32,
+) -> Result<(), AllocError> {
     let found = lines::find_one(text, lines::byte(letter, 0), n as u64);
     if (found != 0) & (found < place) {
-        return;
+        return Ok(());
     }
-    put::text(b"  ");
-    put::text(name);
-    put::words(b" ", n as u64, b" has no ");
-    put::text(letter);
+    put::text(out, b"  ")?;
+    put::text(out, name)?;
+    put::words(out, b" ", n as u64, b" has no ")?;
+    put::text(out, letter)?;
     if found != 0 {
-        put::words(b" line above; it is below, line ", found as u64, b"");
-        put_order();
+        put::words(out, b" line above; it is below, line ", found as u64, b"")?;
+        put_order(out)
     } else if lines::find_letter(text, lines::byte(letter, 0)) != 0 {
-        put::text(b" line\n");
+        put::text(out, b" line\n")
     } else {
-        put::text(b" line; the text has none at all\n");
+        put::text(out, b" line; the text has none at all\n")
     }
 }
 
 // A line that names one task, or the first of the two that an arrow names.
-fn unknown_task(text: &[u8], place: usize, t: u32) {
-    put::text(b"the line names a task that has no T line above\n");
-    absent(text, place, b"task", b"T", t);
+fn unknown_task(out: &mut Vec<u8>, text: &[u8], place: usize, t: u32) -> Result<(), AllocError> {
+    put::text(out, b"the line names a task that has no T line above\n")?;
+    absent(out, text, place, b"task", b"T", t)
 }
 
-fn unknown_tasks(text: &[u8], place: usize, from: u32, to: u32) {
-    unknown_task(text, place, from);
-    absent(text, place, b"task", b"T", to);
+fn unknown_tasks(
+    out: &mut Vec<u8>,
+    text: &[u8],
+    place: usize,
+    from: u32,
+    to: u32,
+) -> Result<(), AllocError> {
+    unknown_task(out, text, place, from)?;
+    absent(out, text, place, b"task", b"T", to)
 }
 
 // Of a U line all lines before are U lines, so that this one should be of the type after theirs; or it is there already.
-fn next_type(text: &[u8], place: usize, k: u32) {
+fn next_type(out: &mut Vec<u8>, text: &[u8], place: usize, k: u32) -> Result<(), AllocError> {
     let earlier = lines::find_one(text, b'U', k as u64);
     if earlier < place {
-        put::words(b"type ", k as u64, b" already has its U line: see line ");
-        put::words(b"", earlier as u64, b"\n");
-        lines::quote(text, earlier);
+        put::words(
+            out,
+            b"type ",
+            k as u64,
+            b" already has its U line: see line ",
+        )?;
+        put::words(out, b"", earlier as u64, b"\n")?;
+        lines::quote(out, text, earlier)
     } else {
         put::words(
+            out,
             b"the U line of type ",
             cells::less(place as u64, 1),
             b" is missing above, or this type is wrong: U lines give the types in order, from 0\n",
-        );
+        )
     }
 }
 
-fn unknown(text: &[u8], place: usize, line: Line) {
+fn unknown(out: &mut Vec<u8>, text: &[u8], place: usize, line: Line) -> Result<(), AllocError> {
     match line {
-        Line::Units(k, _) => next_type(text, place, k),
+        Line::Units(k, _) => next_type(out, text, place, k),
         Line::Times(_, k, _, _) => {
-            put::text(b"the line names a type that has no U line above\n");
-            absent(text, place, b"type", b"U", k);
+            put::text(out, b"the line names a type that has no U line above\n")?;
+            absent(out, text, place, b"type", b"U", k)
         }
-        Line::Arrow(from, to) => unknown_tasks(text, place, from, to),
-        Line::Deadline(t, _) => unknown_task(text, place, t),
-        Line::Release(t, _) => unknown_task(text, place, t),
-        Line::Choice(t, _) => unknown_task(text, place, t),
+        Line::Arrow(from, to) => unknown_tasks(out, text, place, from, to),
+        Line::Deadline(t, _) => unknown_task(out, text, place, t),
+        Line::Release(t, _) => unknown_task(out, text, place, t),
+        Line::Choice(t, _) => unknown_task(out, text, place, t),
     }
 }
 
@@ -233,60 +281,67 @@ fn earlier(text: &[u8], line: Line) -> usize {
     }
 }
 
-fn put_already(t: u32, what: &[u8]) {
-    put::words(b"task ", t as u64, b" already ");
-    put::text(what);
+fn put_already(out: &mut Vec<u8>, t: u32, what: &[u8]) -> Result<(), AllocError> {
+    put::words(out, b"task ", t as u64, b" already ")?;
+    put::text(out, what)
 }
 
-fn put_twice(line: Line) {
+fn put_twice(out: &mut Vec<u8>, line: Line) -> Result<(), AllocError> {
     match line {
         Line::Times(t, k, _, _) => {
-            put_already(t, b"has times on type ");
-            put::number(k as u64);
+            put_already(out, t, b"has times on type ")?;
+            put::number(out, k as u64)
         }
-        Line::Arrow(_, _) => put::text(b"this arrow is already there"),
-        Line::Deadline(t, _) => put_already(t, b"has a deadline"),
-        Line::Release(t, _) => put_already(t, b"has an N line"),
-        Line::Choice(t, _) => put_already(t, b"stands in the order"),
-        _ => {}
+        Line::Arrow(_, _) => put::text(out, b"this arrow is already there"),
+        Line::Deadline(t, _) => put_already(out, t, b"has a deadline"),
+        Line::Release(t, _) => put_already(out, t, b"has an N line"),
+        Line::Choice(t, _) => put_already(out, t, b"stands in the order"),
+        _ => Ok(()),
     }
 }
 
 // A task that stands in the order twice is often mistyped for one that does not stand in it.
-fn put_unlisted(text: &[u8], line: Line) {
+fn put_unlisted(out: &mut Vec<u8>, text: &[u8], line: Line) -> Result<(), AllocError> {
     if let Line::Choice(_, _) = line {
         let set = checks::unlisted(text);
         if set != 0 {
-            put::text(b"  no C line yet: ");
-            names::tasks(set);
-            put::end_line();
+            put::text(out, b"  no C line yet: ")?;
+            names::tasks(out, set)?;
+            put::end_line(out)?;
         }
     }
+    Ok(())
 }
 
-fn repeated(text: &[u8], line: Line) {
+fn repeated(out: &mut Vec<u8>, text: &[u8], line: Line) -> Result<(), AllocError> {
     let place = earlier(text, line);
-    put_twice(line);
-    put::words(b": see line ", place as u64, b"\n");
-    put_unlisted(text, line);
-    lines::quote(text, place);
+    put_twice(out, line)?;
+    put::words(out, b": see line ", place as u64, b"\n")?;
+    put_unlisted(out, text, line)?;
+    lines::quote(out, text, place)
 }
 
-fn fault(text: &[u8], number: u32, place: usize, line: Line) {
+fn fault(
+    out: &mut Vec<u8>,
+    text: &[u8],
+    number: u32,
+    place: usize,
+    line: Line,
+) -> Result<(), AllocError> {
     match number {
-        3 => ranges(line),
-        4 => odds(line),
-        5 => late(text, place),
-        6 => unknown(text, place, line),
-        _ => repeated(text, line),
+        3 => ranges(out, line),
+        4 => odds(out, line),
+        5 => late(out, text, place),
+        6 => unknown(out, text, place, line),
+        _ => repeated(out, text, line),
     }
 }
 
-pub fn show(text: &[u8], number: u32, place: usize) {
-    put::words(b"refused ", number as u64, b" at line ");
-    put::words(b"", place as u64, b": ");
+pub fn show(out: &mut Vec<u8>, text: &[u8], number: u32, place: usize) -> Result<(), AllocError> {
+    put::words(out, b"refused ", number as u64, b" at line ")?;
+    put::words(out, b"", place as u64, b": ")?;
     if let LineForm::Of(line) = plan_text::read_line(lines::line(text, place)) {
-        fault(text, number, place, line);
+        fault(out, text, number, place, line)?;
     }
-    lines::quote(text, place);
+    lines::quote(out, text, place)
 }

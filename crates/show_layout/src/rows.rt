@@ -5,6 +5,7 @@ use plan::{MOST_TASKS, MOST_TYPES};
 use show_words::cells::plus;
 use show_words::get::entry;
 use show_words::{cells, put, svg};
+use std::alloc::AllocError;
 
 // The row of deadlines above the bars of a lane, the row of numbers below them, and below that the row of not-before instants.
 const FLAGS: u64 = 240;
@@ -14,7 +15,7 @@ const NUMBERS: u64 = 170;
 const BRACKETS: u64 = 255;
 
 // The lanes that have such rows, as sets.
-#[derive(Drop)]
+#[derive(Clone, Copy)]
 pub struct Having {
     pub flags: u64,
     pub numbers: u64,
@@ -22,7 +23,7 @@ pub struct Having {
 }
 
 // By lane, where it begins, where its bars do and where its row of not-before instants; and where the last one ends.
-#[derive(Drop)]
+#[derive(Clone, Copy)]
 pub struct Rows {
     pub tops: [u64; lanes::MOST_LANES],
     pub bars: [u64; lanes::MOST_LANES],
@@ -102,41 +103,64 @@ pub fn by_task<'a>(
 }
 
 // The name of a lane; a type with one unit needs no number of it.
-pub fn name(units: &[u32; MOST_TYPES], lane: usize) {
-    put::words(b"type ", lanes::kind_of(lane) as u64, b"");
+pub fn name(out: &mut Vec<u8>, units: &[u32; MOST_TYPES], lane: usize) -> Result<(), AllocError> {
+    put::words(out, b"type ", lanes::kind_of(lane) as u64, b"")?;
     if 1 < cells::units_of(units, lanes::kind_of(lane)) {
-        put::words(b", unit ", lanes::unit_of(lane) as u64, b"");
+        put::words(out, b", unit ", lanes::unit_of(lane) as u64, b"")?;
     }
+    Ok(())
 }
 
 // The line above a lane, stronger above the first of a type.
-fn upper_line(lane: usize, y: u64) {
+fn upper_line(out: &mut Vec<u8>, lane: usize, y: u64) -> Result<(), AllocError> {
     if lanes::is_first(lane) {
-        svg::line(b"type", 100, y, scale::RIGHT, y);
+        svg::line(out, b"type", 100, y, scale::RIGHT, y)
     } else {
-        svg::line(b"unit", scale::LEFT, y, scale::RIGHT, y);
+        svg::line(out, b"unit", scale::LEFT, y, scale::RIGHT, y)
     }
 }
 
-fn lane_row(units: &[u32; MOST_TYPES], lane: usize, y: u64, bar: u64, s: Size) {
+fn lane_row(
+    out: &mut Vec<u8>,
+    units: &[u32; MOST_TYPES],
+    lane: usize,
+    y: u64,
+    bar: u64,
+    s: Size,
+) -> Result<(), AllocError> {
     if lanes::is_there(units, lane) {
-        upper_line(lane, y);
-        svg::begin_words(b"lane", scale::LEFT - 100, plus(bar, plus(s.bar / 2, 42)));
-        name(units, lane);
-        svg::end_words();
+        upper_line(out, lane, y)?;
+        svg::begin_words(
+            out,
+            b"lane",
+            scale::LEFT - 100,
+            plus(bar, plus(s.bar / 2, 42)),
+        )?;
+        name(out, units, lane)?;
+        svg::end_words(out)?;
     }
+    Ok(())
 }
 
 // The lanes themselves, without their bars.
 pub fn draw<'a>(
+    out: &mut Vec<u8>,
     units: &'a [u32; MOST_TYPES],
     tops: &'a [u64; lanes::MOST_LANES],
     bars: &'a [u64; lanes::MOST_LANES],
     s: Size,
-) {
+) -> Result<(), AllocError> {
     let mut i = 0;
     while i < lanes::MOST_LANES {
-        lane_row(units, i, cells::place(tops, i), cells::place(bars, i), s);
+        lane_row(
+            out,
+            units,
+            i,
+            cells::place(tops, i),
+            cells::place(bars, i),
+            s,
+        )?;
         i += 1;
     }
+    Ok(())
 }

@@ -13,7 +13,7 @@ pub const RIGHT: u64 = 11150;
 pub const SHEET: u64 = 11750;
 
 // How high a bar is and what is left free above and below it, where the lanes begin, and whether they are many.
-#[derive(Drop)]
+#[derive(Clone, Copy)]
 pub struct Size {
     pub bar: u64,
     pub pad: u64,

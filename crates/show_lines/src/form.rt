@@ -2,6 +2,7 @@
 use crate::lines;
 use plan_text::MOST_DIGITS;
 use show_words::{cells, put};
+use std::alloc::AllocError;
 
 const TAB: u8 = b'\t';
 
@@ -19,10 +20,11 @@ pub fn is_utf16(s: &[u8]) -> bool {
     marked | ((3 < s.len()) & zeros & ((a == 0) != (b == 0)))
 }
 
-pub fn put_utf16() {
+pub fn put_utf16(out: &mut Vec<u8>) -> Result<(), AllocError> {
     put::text(
+        out,
         b"the text is saved as UTF-16, with two bytes for each character; save it as UTF-8 without byte order mark",
-    );
+    )
 }
 
 fn has_mark(s: &[u8]) -> bool {
@@ -63,13 +65,18 @@ fn is_small_letter(b: u8) -> bool {
     is_letter(b - 32)
 }
 
-fn put_mark(s: &[u8]) {
+fn put_mark(out: &mut Vec<u8>, s: &[u8]) -> Result<(), AllocError> {
     put::text(
+        out,
         b"the text begins with a byte order mark (bytes ef bb bf, which editors do not show); save it as UTF-8 without that mark",
-    );
+    )?;
     if lines::has(s, RETURN) {
-        put::text(b", and with Unix line ends: the line has a carriage return, too");
+        put::text(
+            out,
+            b", and with Unix line ends: the line has a carriage return, too",
+        )?;
     }
+    Ok(())
 }
 
 // Where a byte is that is not ASCII; the end where there is none.
@@ -113,67 +120,80 @@ fn sign_length(s: &[u8]) -> usize {
     most
 }
 
-fn put_beyond(s: &[u8]) {
+fn put_beyond(out: &mut Vec<u8>, s: &[u8]) -> Result<(), AllocError> {
     let rest = lines::part(s, first_beyond(s), s.len());
     let sign = lines::part(rest, 0, sign_length(rest));
     if is_tab_sign(rest) {
-        put::text(b"the sign \xe2\x87\xa5 stands for a tab in the guide; type a tab");
-    } else {
-        put::text(b"the line has a character that is not plain ASCII, ");
-        lines::put_part(sign);
         put::text(
+            out,
+            b"the sign \xe2\x87\xa5 stands for a tab in the guide; type a tab",
+        )
+    } else {
+        put::text(out, b"the line has a character that is not plain ASCII, ")?;
+        lines::put_part(out, sign)?;
+        put::text(
+            out,
             b", which may look like a space, like another one, or not at all; type it anew, or take it out",
-        );
+        )
     }
 }
 
 // What is wrong with how the text was saved; false where nothing is.
-fn saved(s: &[u8], place: usize) -> bool {
+fn saved(out: &mut Vec<u8>, s: &[u8], place: usize) -> Result<bool, AllocError> {
     if is_utf16(s) {
-        put_utf16();
+        put_utf16(out)?;
     } else if (place == 1) & has_mark(s) {
-        put_mark(s);
+        put_mark(out, s)?;
     } else if lines::has(s, RETURN) {
         put::text(
+            out,
             b"the line has a carriage return (byte 0d), as Windows (CR LF) and old Macs (CR) end lines; save the text with Unix line ends (LF)",
-        );
+        )?;
     } else if lines::has(s, 0) {
-        put::text(b"the line has a zero byte; take it out");
+        put::text(out, b"the line has a zero byte; take it out")?;
     } else if first_beyond(s) < s.len() {
-        put_beyond(s);
+        put_beyond(out, s)?;
     } else {
-        return false;
+        return Ok(false);
     }
-    true
+    Ok(true)
 }
 
 // What is wrong with a line as a whole; false where it is none of these.
-fn whole_line(s: &[u8]) -> bool {
+fn whole_line(out: &mut Vec<u8>, s: &[u8]) -> Result<bool, AllocError> {
     let visible = first_visible(s);
     if visible == 0 {
-        put::text(b"the line is blank; take it out: a plan text has no blank lines");
+        put::text(
+            out,
+            b"the line is blank; take it out: a plan text has no blank lines",
+        )?;
     } else if begins_comment(visible) {
-        put::text(b"the line is a comment; take it out: a plan text has no comments");
+        put::text(
+            out,
+            b"the line is a comment; take it out: a plan text has no comments",
+        )?;
     } else if lines::has(s, b'#') | has_slashes(s) {
         put::text(
+            out,
             b"the line has a comment; take it out, with the tab or spaces before it: a plan text has no comments",
-        );
+        )?;
     } else if lines::has(s, b'"') {
-        put::text(b"the line has quotation marks; take them out");
+        put::text(out, b"the line has quotation marks; take them out")?;
     } else if lines::byte(s, 0) == TAB {
-        put::text(b"the line begins with a tab; take it out");
+        put::text(out, b"the line begins with a tab; take it out")?;
     } else if lines::byte(s, 0) == b' ' {
-        put::text(b"the line begins with a space; take it out");
+        put::text(out, b"the line begins with a space; take it out")?;
     } else if lines::last_byte(s) == b' ' {
-        put::text(b"the line ends in a space; take it out");
+        put::text(out, b"the line ends in a space; take it out")?;
     } else if lines::has(s, b' ') {
         put::text(
+            out,
             b"the line has spaces; one tab (quoted here as \xe2\x87\xa5) stands before each number, and nothing else does",
-        );
+        )?;
     } else {
-        return false;
+        return Ok(false);
     }
-    true
+    Ok(true)
 }
 
 fn is_in_word(b: u8) -> bool {
@@ -181,25 +201,30 @@ fn is_in_word(b: u8) -> bool {
 }
 
 // What is wrong with the letter and the tab behind it; false where nothing is.
-fn front(s: &[u8]) -> bool {
+fn front(out: &mut Vec<u8>, s: &[u8]) -> Result<bool, AllocError> {
     let letter = lines::byte(s, 0);
     let second = lines::byte(s, 1);
     if is_small_letter(letter) & (second == TAB) {
-        put::text(b"the letter is a small one; write U, T, A, D, N or C");
+        put::text(out, b"the letter is a small one; write U, T, A, D, N or C")?;
     } else if (second == b',') | (second == b';') {
         put::text(
+            out,
             b"commas or semicolons stand for tabs; one tab stands before each number: save the text with tabs",
-        );
+        )?;
     } else if is_in_word(letter) & is_in_word(second) {
         put::text(
+            out,
             b"a line begins with one letter, U, T, A, D, N or C, and a tab; there are no headings",
-        );
+        )?;
     } else if (second != TAB) | !is_letter(letter) {
-        put::text(b"a line begins with one of the letters U, T, A, D, N and C, and a tab");
+        put::text(
+            out,
+            b"a line begins with one of the letters U, T, A, D, N and C, and a tab",
+        )?;
     } else {
-        return false;
+        return Ok(false);
     }
-    true
+    Ok(true)
 }
 
 fn is_digit(b: u8) -> bool {
@@ -223,27 +248,29 @@ fn is_good(field: &[u8]) -> bool {
     (0 < field.len()) & (field.len() <= MOST_DIGITS) & is_digit(first_other(field)) & !zero
 }
 
-fn put_field_fault(field: &[u8]) {
+fn put_field_fault(out: &mut Vec<u8>, field: &[u8]) -> Result<(), AllocError> {
     let other = first_other(field);
     if (other == b'.') | (other == b',') {
         put::text(
+            out,
             b"has a point or comma; numbers are whole and have no separators: for a fraction take a shorter tick, or round (a worst time up)",
-        );
+        )
     } else if ((other == b'-') | (other == b'+')) & (1 < field.len()) {
-        put::text(b"has a sign; numbers have none");
+        put::text(out, b"has a sign; numbers have none")
     } else if is_letter(other) & (field.len() == 1) {
-        put::text(b"is no number; is a newline missing before it?");
+        put::text(out, b"is no number; is a newline missing before it?")
     } else if !is_digit(other) {
-        put::text(b"has other characters than digits");
+        put::text(out, b"has other characters than digits")
     } else if MOST_DIGITS < field.len() {
         put::words(
+            out,
             b"has more than ",
             MOST_DIGITS as u64,
             b" digits; no number is above ",
-        );
-        put::number(plan::LONGEST_TIME as u64);
+        )?;
+        put::number(out, plan::LONGEST_TIME as u64)
     } else {
-        put::text(b"begins with 0; leave that out");
+        put::text(out, b"begins with 0; leave that out")
     }
 }
 
@@ -291,32 +318,33 @@ fn faulty_field(s: &[u8], count: usize) -> usize {
     0
 }
 
-fn put_faulty_field(s: &[u8], k: usize) {
+fn put_faulty_field(out: &mut Vec<u8>, s: &[u8], k: usize) -> Result<(), AllocError> {
     let f = field(s, k);
     if (f.len() == 0) & (lines::last_byte(s) == TAB) {
-        put::text(b"the line ends in a tab; take out all tabs at its end");
+        put::text(out, b"the line ends in a tab; take out all tabs at its end")
     } else if f.len() == 0 {
         put::words(
+            out,
             b"two tabs stand before number ",
             k as u64,
             b"; take one out",
-        );
+        )
     } else {
-        put::words(b"number ", k as u64, b" of the line, ");
-        lines::put_part(f);
-        put::text(b", ");
-        put_field_fault(f);
+        put::words(out, b"number ", k as u64, b" of the line, ")?;
+        lines::put_part(out, f)?;
+        put::text(out, b", ")?;
+        put_field_fault(out, f)
     }
 }
 
-fn put_form(letter: u8) {
+fn put_form(out: &mut Vec<u8>, letter: u8) -> Result<(), AllocError> {
     match letter {
-        b'U' => put::text(b"a U line has 2 numbers: type, count"),
-        b'T' => put::text(b"a T line has 4 numbers: task, type, best, worst"),
-        b'A' => put::text(b"an A line has 2 numbers: from, to"),
-        b'D' => put::text(b"a D line has 2 numbers: task, instant"),
-        b'N' => put::text(b"an N line has 2 numbers: task, instant"),
-        _ => put::text(b"a C line has 2 numbers: task, type"),
+        b'U' => put::text(out, b"a U line has 2 numbers: type, count"),
+        b'T' => put::text(out, b"a T line has 4 numbers: task, type, best, worst"),
+        b'A' => put::text(out, b"an A line has 2 numbers: from, to"),
+        b'D' => put::text(out, b"a D line has 2 numbers: task, instant"),
+        b'N' => put::text(out, b"an N line has 2 numbers: task, instant"),
+        _ => put::text(out, b"a C line has 2 numbers: task, type"),
     }
 }
 
@@ -327,46 +355,51 @@ fn wanted(letter: u8) -> usize {
     2
 }
 
-fn put_fields(s: &[u8]) {
+fn put_fields(out: &mut Vec<u8>, s: &[u8]) -> Result<(), AllocError> {
     let letter = lines::byte(s, 0);
     let count = count_fields(s);
     let k = faulty_field(s, count);
     if k != 0 {
-        put_faulty_field(s, k);
+        put_faulty_field(out, s, k)
     } else if count != wanted(letter) {
-        put_form(letter);
-        put::words(b"; this one has ", count as u64, b"");
+        put_form(out, letter)?;
+        put::words(out, b"; this one has ", count as u64, b"")
     } else {
-        put::text(b"the last line does not end in a newline; press Enter at its end");
+        put::text(
+            out,
+            b"the last line does not end in a newline; press Enter at its end",
+        )
     }
 }
 
 // The first cause that applies.
-fn cause(s: &[u8], place: usize) {
-    if saved(s, place) {
-        return;
+fn cause(out: &mut Vec<u8>, s: &[u8], place: usize) -> Result<(), AllocError> {
+    if saved(out, s, place)? {
+        return Ok(());
     }
-    if whole_line(s) {
-        return;
+    if whole_line(out, s)? {
+        return Ok(());
     }
-    if front(s) {
-        return;
+    if front(out, s)? {
+        return Ok(());
     }
-    put_fields(s);
+    put_fields(out, s)
 }
 
-pub fn show(text: &[u8], place: usize) {
+pub fn show(out: &mut Vec<u8>, text: &[u8], place: usize) -> Result<(), AllocError> {
     let s = lines::line(text, place);
-    put::words(b"refused 2 at line ", place as u64, b": ");
-    cause(s, place);
-    put::end_line();
-    lines::quote(text, place);
+    put::words(out, b"refused 2 at line ", place as u64, b": ")?;
+    cause(out, s, place)?;
+    put::end_line(out)?;
+    lines::quote(out, text, place)?;
     let others = cells::less(lines::count_unformed(text), 1);
     if 0 < others {
         put::words(
+            out,
             b"  lines that are none of the forms, besides this one: ",
             others,
             b"\n",
-        );
+        )?;
     }
+    Ok(())
 }

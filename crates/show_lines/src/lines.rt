@@ -1,8 +1,9 @@
 // The lines of a text: the one at a place, counted from 1, and where a line like this one stands first.
-ghost use Rattle.std.specs.Prelude.{◌≤◌};
+ghost use Rattle.std.specs.Prelude.{◌<◌};
 
 use plan_text::{Line, LineForm};
 use show_words::{cells, put};
+use std::alloc::AllocError;
 
 // A text of more lines is refused for its length: each has its newline.
 const MOST_LINES: usize = plan_text::MOST_BYTES;
@@ -13,7 +14,7 @@ const MOST_OF_LINE: usize = 72;
 const MOST_OF_PART: usize = 24;
 
 // The lines that are sought: their letter, and how many of their numbers, from the first, are these.
-#[derive(Drop)]
+#[derive(Clone, Copy)]
 pub struct Sought {
     pub letter: u8,
     pub alike: usize,
@@ -182,59 +183,71 @@ pub fn count_unformed(text: &[u8]) -> u64 {
 }
 
 // A byte as it is quoted: a tab as an arrow, what cannot be printed by its hexadecimal number.
-fn put_byte(s: &[u8], i: usize) {
+fn put_byte(out: &mut Vec<u8>, s: &[u8], i: usize) -> Result<(), AllocError> {
     if s.len() <= i {
-        return;
+        return Ok(());
     }
     let b = s[i];
     if b == b'\t' {
-        put::text(b"\xe2\x87\xa5");
+        put::text(out, b"\xe2\x87\xa5")
     } else if (b' ' <= b) & (b <= b'~') {
-        put::text(&s[i..i + 1]);
+        put::text(out, &s[i..i + 1])
     } else {
-        put_code(b);
+        put_code(out, b)
     }
 }
 
-fn put_code(b: u8) {
-    put::text(b"<");
-    io::print_hex(libc::STDOUT_FILENO, b as u64, 2);
-    put::text(b">");
+fn hex_digit(d: u8) -> u8
+    requires { d < 16 }
+{
+    if d < 10 { b'0' + d } else { b'a' - 10 + d }
 }
 
-fn put_bytes(s: &[u8]) {
+fn put_code(out: &mut Vec<u8>, b: u8) -> Result<(), AllocError> {
+    put::text(out, b"<")?;
+    put::text(out, &[hex_digit(b / 16), hex_digit(b % 16)])?;
+    put::text(out, b">")
+}
+
+fn put_bytes(out: &mut Vec<u8>, s: &[u8]) -> Result<(), AllocError> {
     let mut i = 0;
     while i < s.len() {
-        put_byte(s, i);
+        put_byte(out, s, i)?;
         i += 1;
     }
+    Ok(())
 }
 
 // Bytes as they are quoted, cut where they are many.
-fn put_quoted(s: &[u8], most: usize) {
+fn put_quoted(out: &mut Vec<u8>, s: &[u8], most: usize) -> Result<(), AllocError> {
     if s.len() <= most {
-        put_bytes(s);
+        put_bytes(out, s)
     } else {
-        put_bytes(part(s, 0, most));
-        put::text(b" ..");
+        put_bytes(out, part(s, 0, most))?;
+        put::text(out, b" ..")
     }
 }
 
 // A part of a line, in quotation marks.
-pub fn put_part(s: &[u8]) {
-    put::text(b"\"");
-    put_quoted(s, MOST_OF_PART);
-    put::text(b"\"");
+pub fn put_part(out: &mut Vec<u8>, s: &[u8]) -> Result<(), AllocError> {
+    put::text(out, b"\"")?;
+    put_quoted(out, s, MOST_OF_PART)?;
+    put::text(out, b"\"")
 }
 
 // The line at a place, quoted, with a word about it.
-pub fn quote_with(text: &[u8], place: usize, word: &[u8]) {
-    put::words(b"  line ", place as u64, b": ");
-    put_quoted(line(text, place), MOST_OF_LINE);
-    put::text(word);
-    put::end_line();
+pub fn quote_with(
+    out: &mut Vec<u8>,
+    text: &[u8],
+    place: usize,
+    word: &[u8],
+) -> Result<(), AllocError> {
+    put::words(out, b"  line ", place as u64, b": ")?;
+    put_quoted(out, line(text, place), MOST_OF_LINE)?;
+    put::text(out, word)?;
+    put::end_line(out)
 }
 
-pub fn quote(text: &[u8], place: usize) {
-    quote_with(text, place, b"");
+pub fn quote(out: &mut Vec<u8>, text: &[u8], place: usize) -> Result<(), AllocError> {
+    quote_with(out, text, place, b"")
 }

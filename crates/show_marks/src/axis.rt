@@ -3,6 +3,7 @@ use show_layout::scale;
 use show_layout::scale::Size;
 use show_words::cells::plus;
 use show_words::{cells, put, svg};
+use std::alloc::AllocError;
 
 // An axis has at most so many labels.
 const MOST_LABELS: usize = 17;
@@ -45,56 +46,68 @@ fn step_for(end: u64) -> u64 {
     step
 }
 
-fn grid_line(end: u64, t: u64, top: u64, bottom: u64) {
+fn grid_line(out: &mut Vec<u8>, end: u64, t: u64, top: u64, bottom: u64) -> Result<(), AllocError> {
     if t <= end {
-        svg::line(b"grid", scale::x(end, t), top, scale::x(end, t), bottom);
+        svg::line(
+            out,
+            b"grid",
+            scale::x(end, t),
+            top,
+            scale::x(end, t),
+            bottom,
+        )?;
     }
+    Ok(())
 }
 
-fn grid(end: u64, step: u64, top: u64, bottom: u64) {
+fn grid(out: &mut Vec<u8>, end: u64, step: u64, top: u64, bottom: u64) -> Result<(), AllocError> {
     let mut t = 0;
     let mut i = 0;
     while i < MOST_LABELS {
-        grid_line(end, t, top, bottom);
+        grid_line(out, end, t, top, bottom)?;
         t = plus(t, step);
         i += 1;
     }
+    Ok(())
 }
 
-fn label(end: u64, t: u64, y: u64) {
+fn label(out: &mut Vec<u8>, end: u64, t: u64, y: u64) -> Result<(), AllocError> {
     if t <= end {
-        svg::number(b"at", scale::x(end, t), y, t);
+        svg::number(out, b"at", scale::x(end, t), y, t)?;
     }
+    Ok(())
 }
 
-fn labels(end: u64, step: u64, y: u64) {
+fn labels(out: &mut Vec<u8>, end: u64, step: u64, y: u64) -> Result<(), AllocError> {
     let mut t = 0;
     let mut i = 0;
     while i < MOST_LABELS {
-        label(end, t, y);
+        label(out, end, t, y)?;
         t = plus(t, step);
         i += 1;
     }
+    Ok(())
 }
 
-fn labelled(end: u64, y: u64) {
-    svg::words(b"lane", scale::LEFT - 100, y, b"ticks");
-    labels(end, step_for(end), y);
+fn labelled(out: &mut Vec<u8>, end: u64, y: u64) -> Result<(), AllocError> {
+    svg::words(out, b"lane", scale::LEFT - 100, y, b"ticks")?;
+    labels(out, end, step_for(end), y)
 }
 
 // The light lines under everything, and the instants below the lanes; where lanes are many, above them, too.
-pub fn draw(end: u64, s: Size, bottom: u64) {
-    grid(end, step_for(end), s.top, plus(bottom, 50));
-    labelled(end, plus(bottom, 180));
+pub fn draw(out: &mut Vec<u8>, end: u64, s: Size, bottom: u64) -> Result<(), AllocError> {
+    grid(out, end, step_for(end), s.top, plus(bottom, 50))?;
+    labelled(out, end, plus(bottom, 180))?;
     if s.many {
-        labelled(end, cells::less(s.top, 70));
+        labelled(out, end, cells::less(s.top, 70))?;
     }
+    Ok(())
 }
 
 // The ends of the axis: the line below the lanes, and the line of the instant 0.
-pub fn frame(top: u64, bottom: u64) {
-    svg::line(b"axis", scale::LEFT, bottom, scale::RIGHT, bottom);
-    svg::line(b"axis", scale::LEFT, top, scale::LEFT, bottom);
+pub fn frame(out: &mut Vec<u8>, top: u64, bottom: u64) -> Result<(), AllocError> {
+    svg::line(out, b"axis", scale::LEFT, bottom, scale::RIGHT, bottom)?;
+    svg::line(out, b"axis", scale::LEFT, top, scale::LEFT, bottom)
 }
 
 // Where the line of the response begins: below its label, and below the axis where that stands above the lanes.
@@ -106,9 +119,15 @@ fn response_top(s: Size) -> u64 {
 }
 
 // The line of the response, over all lanes.
-pub fn response(x: u64, response: u64, s: Size, bottom: u64) {
-    svg::line(b"response", x, response_top(s), x, plus(bottom, 50));
-    svg::begin_words(b"last", x, 360);
-    put::words(b"R = ", response, b"");
-    svg::end_words();
+pub fn response(
+    out: &mut Vec<u8>,
+    x: u64,
+    response: u64,
+    s: Size,
+    bottom: u64,
+) -> Result<(), AllocError> {
+    svg::line(out, b"response", x, response_top(s), x, plus(bottom, 50))?;
+    svg::begin_words(out, b"last", x, 360)?;
+    put::words(out, b"R = ", response, b"")?;
+    svg::end_words(out)
 }

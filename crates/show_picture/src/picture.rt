@@ -10,10 +10,11 @@ use show_words::arrows;
 use show_words::cells::plus;
 use show_words::get::entry;
 use simulation::Simulation;
+use std::alloc::AllocError;
 
 // By task number: the lane, where the bar lies from the left to the right, where the number of a narrow one, the deadline and the
 // number of that, the not-before instant and the number of that.
-#[derive(Drop)]
+#[derive(Clone, Copy)]
 struct Places {
     lanes: [usize; MOST_TASKS],
     lefts: [u64; MOST_TASKS],
@@ -27,7 +28,7 @@ struct Places {
 }
 
 // By task number, where the bar begins from above, and the row of not-before instants below it; and how high a bar is.
-#[derive(Drop)]
+#[derive(Clone, Copy)]
 struct Heights {
     bars: [u64; MOST_TASKS],
     feet: [u64; MOST_TASKS],
@@ -35,8 +36,8 @@ struct Heights {
 }
 
 // The picture of an accepted plan.
-pub fn show(p: Plan, c: Constraint) {
-    chart(p, c, simulation::bound(p, c));
+pub fn show(out: &mut Vec<u8>, p: Plan, c: Constraint) -> Result<(), AllocError> {
+    chart(out, p, c, simulation::bound(p, c))
 }
 
 // The sets of tasks that are drawn in a way of their own.
@@ -112,7 +113,7 @@ fn heights_of(lanes: &[usize; MOST_TASKS], r: Rows, bar: u64, n: usize) -> Heigh
 }
 
 // The picture of a run of a plan, from what lies under everything to what lies over it.
-fn chart(p: Plan, c: Constraint, s: Simulation) {
+fn chart(out: &mut Vec<u8>, p: Plan, c: Constraint, s: Simulation) -> Result<(), AllocError> {
     let n = p.tasks;
     let response = s.response as u64;
     let end = scale::end_of(&p.deadlines, response, n);
@@ -121,22 +122,31 @@ fn chart(p: Plan, c: Constraint, s: Simulation) {
     let rows = rows::laid(&p.units, size, lanes_having(&a.lanes, a.sets, n));
     let bottom = rows.bottom;
     let h = heights_of(&a.lanes, rows, size.bar, n);
-    style::begin(bottom, a.sets, response);
-    axis::draw(end, size, bottom);
-    rows::draw(&p.units, &rows.tops, &rows.bars, size);
-    axis::frame(size.top, bottom);
-    strokes(a, h, n);
-    arrows::draw(&a.lefts, &a.rights, &h.bars, &p.predecessors, size.bar, n);
-    axis::response(scale::x(end, response), response, size, bottom);
-    tasks(p, c, s, a, h);
-    key::draw(a.sets, arrows::count(&p.predecessors, n), bottom);
-    style::end();
+    style::begin(out, bottom, a.sets, response)?;
+    axis::draw(out, end, size, bottom)?;
+    rows::draw(out, &p.units, &rows.tops, &rows.bars, size)?;
+    axis::frame(out, size.top, bottom)?;
+    strokes(out, a, h, n)?;
+    arrows::draw(
+        out,
+        &a.lefts,
+        &a.rights,
+        &h.bars,
+        &p.predecessors,
+        size.bar,
+        n,
+    )?;
+    axis::response(out, scale::x(end, response), response, size, bottom)?;
+    tasks(out, p, c, s, a, h)?;
+    key::draw(out, a.sets, arrows::count(&p.predecessors, n), bottom)?;
+    style::end(out)
 }
 
 // The strokes of not-before instants, and of the deadlines that are on the axis.
-fn strokes(a: Places, h: Heights, n: usize) {
+fn strokes(out: &mut Vec<u8>, a: Places, h: Heights, n: usize) -> Result<(), AllocError> {
     let on_axis = task_set::difference(a.sets.due, a.sets.beyond);
     bars::strokes(
+        out,
         b"open",
         &a.releases,
         &h.bars,
@@ -145,8 +155,9 @@ fn strokes(a: Places, h: Heights, n: usize) {
         50,
         a.sets.released,
         n,
-    );
+    )?;
     bars::strokes(
+        out,
         b"due",
         &a.dues,
         &h.bars,
@@ -155,24 +166,40 @@ fn strokes(a: Places, h: Heights, n: usize) {
         plus(h.bar, 40),
         on_axis,
         n,
-    );
+    )
 }
 
 // The tasks in the order of the constraint.
-fn tasks(p: Plan, c: Constraint, s: Simulation, a: Places, h: Heights) {
+fn tasks(
+    out: &mut Vec<u8>,
+    p: Plan,
+    c: Constraint,
+    s: Simulation,
+    a: Places,
+    h: Heights,
+) -> Result<(), AllocError> {
     let n = p.tasks;
     let mut i = 0;
     while i < n {
-        task(p, s, a, h, entry(&c.order, i));
+        task(out, p, s, a, h, entry(&c.order, i))?;
         i += 1;
     }
+    Ok(())
 }
 
 // A task is a group: what is said under the pointer, its bar, its number, its deadline and its not-before instant.
-fn task(p: Plan, s: Simulation, a: Places, h: Heights, t: usize) {
+fn task(
+    out: &mut Vec<u8>,
+    p: Plan,
+    s: Simulation,
+    a: Places,
+    h: Heights,
+    t: usize,
+) -> Result<(), AllocError> {
     let from = plan::predecessors_of(&p.predecessors, t);
-    bars::begin_group();
+    bars::begin_group(out)?;
     bars::say(
+        out,
         &p.units,
         &a.lanes,
         &s.starts,
@@ -181,7 +208,7 @@ fn task(p: Plan, s: Simulation, a: Places, h: Heights, t: usize) {
         &p.deadlines,
         from,
         t,
-    );
+    )?;
     let b = bars::bar_of(
         &a.lefts,
         &a.rights,
@@ -195,5 +222,5 @@ fn task(p: Plan, s: Simulation, a: Places, h: Heights, t: usize) {
         h.bar,
         t,
     );
-    bars::draw_group(b, a.sets, from);
+    bars::draw_group(out, b, a.sets, from)
 }

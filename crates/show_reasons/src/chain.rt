@@ -8,10 +8,11 @@ use crate::held::{Row, first_of, waits_for_none};
 use plan::{Constraint, MOST_TASKS, Plan};
 use show_words::{names, put};
 use simulation::Simulation;
+use std::alloc::AllocError;
 use task_set::{contains, inserted};
 
 // The tasks of the chain, and those of them whose time adds nothing.
-#[derive(Drop)]
+#[derive(Clone, Copy)]
 pub struct Chain {
     members: u64,
     idle: u64,
@@ -72,30 +73,35 @@ fn traced(p: Plan, c: Constraint, s: Simulation, last: usize) -> Chain {
     Chain { members, idle }
 }
 
-fn put_cause(order: &[usize; MOST_TASKS], n: usize, r: Row) {
+fn put_cause(
+    out: &mut Vec<u8>,
+    order: &[usize; MOST_TASKS],
+    n: usize,
+    r: Row,
+) -> Result<(), AllocError> {
     if r.start == 0 {
-        put::text(b"starts at once");
+        put::text(out, b"starts at once")
     } else if r.awaited != 0 {
-        put::text(b"waits for ");
-        names::task(cause(order, n, r));
+        put::text(out, b"waits for ")?;
+        names::task(out, cause(order, n, r))
     } else if r.freeing != 0 {
-        put_unit(r.units);
-        put::words(b" of type ", r.kind as u64, b" from ");
-        names::task(cause(order, n, r));
+        put_unit(out, r.units)?;
+        put::words(out, b" of type ", r.kind as u64, b" from ")?;
+        names::task(out, cause(order, n, r))
     } else if r.released {
-        put::text(b"starts at its not-before instant");
+        put::text(out, b"starts at its not-before instant")
     } else {
-        put::text(b"starts with ");
-        names::task(r.previous);
-        put::text(b", which comes before it in the order");
+        put::text(out, b"starts with ")?;
+        names::task(out, r.previous)?;
+        put::text(out, b", which comes before it in the order")
     }
 }
 
-fn put_unit(units: u32) {
+fn put_unit(out: &mut Vec<u8>, units: u32) -> Result<(), AllocError> {
     if units == 1 {
-        put::text(b"gets the unit");
+        put::text(out, b"gets the unit")
     } else {
-        put::text(b"gets a unit");
+        put::text(out, b"gets a unit")
     }
 }
 
@@ -111,62 +117,81 @@ fn added(r: Row, idle: u64) -> u32 {
 }
 
 // The numbers of a link.
-fn put_columns(start: u32, finish: u32, adds: u32, digits: usize) {
-    put::under(b"start", digits, start as u64);
-    put::under(b"finish", digits, finish as u64);
-    put::under(b"adds", digits, adds as u64);
-    put::text(b"  ");
+fn put_columns(
+    out: &mut Vec<u8>,
+    start: u32,
+    finish: u32,
+    adds: u32,
+    digits: usize,
+) -> Result<(), AllocError> {
+    put::under(out, b"start", digits, start as u64)?;
+    put::under(out, b"finish", digits, finish as u64)?;
+    put::under(out, b"adds", digits, adds as u64)?;
+    put::text(out, b"  ")
 }
 
 // The time until the not-before instant of the first task.
-fn put_until(r: Row, digits: usize) {
-    put::text(b"   N");
-    put_columns(0, r.start, r.start, digits);
-    names::task(r.task);
-    put::words(b" may not start before ", r.start as u64, b"\n");
+fn put_until(out: &mut Vec<u8>, r: Row, digits: usize) -> Result<(), AllocError> {
+    put::text(out, b"   N")?;
+    put_columns(out, 0, r.start, r.start, digits)?;
+    names::task(out, r.task)?;
+    put::words(out, b" may not start before ", r.start as u64, b"\n")
 }
 
 // A link of the chain, if the task is one.
-pub fn put_link(order: &[usize; MOST_TASKS], n: usize, r: Row, h: Chain, digits: usize) {
+pub fn put_link(
+    out: &mut Vec<u8>,
+    order: &[usize; MOST_TASKS],
+    n: usize,
+    r: Row,
+    h: Chain,
+    digits: usize,
+) -> Result<(), AllocError> {
     if !contains(h.members, r.task) {
-        return;
+        return Ok(());
     }
     if is_first(r) & (0 < r.start) {
-        put_until(r, digits);
+        put_until(out, r, digits)?;
     }
-    put::right(r.task as u64, 4);
-    put_columns(r.start, r.finish, added(r, h.idle), digits);
-    put_cause(order, n, r);
-    put::end_line();
+    put::right(out, r.task as u64, 4)?;
+    put_columns(out, r.start, r.finish, added(r, h.idle), digits)?;
+    put_cause(out, order, n, r)?;
+    put::end_line(out)
 }
 
-fn put_heads(digits: usize) {
-    put::text(b"task");
-    put::head(b"start", digits);
-    put::head(b"finish", digits);
-    put::head(b"adds", digits);
-    put::end_line();
+fn put_heads(out: &mut Vec<u8>, digits: usize) -> Result<(), AllocError> {
+    put::text(out, b"task")?;
+    put::head(out, b"start", digits)?;
+    put::head(out, b"finish", digits)?;
+    put::head(out, b"adds", digits)?;
+    put::end_line(out)
 }
 
 // What the links add up to; start and finish stay empty.
-fn put_sum(response: u32, digits: usize) {
-    put::text(b"   R");
-    put::head(b"     ", digits);
-    put::head(b"      ", digits);
-    put::under(b"adds", digits, response as u64);
-    put::end_line();
+fn put_sum(out: &mut Vec<u8>, response: u32, digits: usize) -> Result<(), AllocError> {
+    put::text(out, b"   R")?;
+    put::head(out, b"     ", digits)?;
+    put::head(out, b"      ", digits)?;
+    put::under(out, b"adds", digits, response as u64)?;
+    put::end_line(out)
 }
 
 // Whose finish R is, and of which of these tasks the chain is.
-fn put_last(order: &[usize; MOST_TASKS], n: usize, response: u32, set: u64) {
-    put::words(b"R is ", response as u64, b", the finish of ");
-    names::tasks(set);
+fn put_last(
+    out: &mut Vec<u8>,
+    order: &[usize; MOST_TASKS],
+    n: usize,
+    response: u32,
+    set: u64,
+) -> Result<(), AllocError> {
+    put::words(out, b"R is ", response as u64, b", the finish of ")?;
+    names::tasks(out, set)?;
     if task_set::member_count(set) == 1 {
-        put::text(b". The chain of tasks that makes it:\n");
+        put::text(out, b". The chain of tasks that makes it:\n")
     } else {
-        put::text(b". The chain of tasks that makes ");
-        names::task(first_of(order, n, set));
-        put::text(b" finish then:\n");
+        put::text(out, b". The chain of tasks that makes ")?;
+        names::task(out, first_of(order, n, set))?;
+        put::text(out, b" finish then:\n")
     }
 }
 
@@ -180,12 +205,18 @@ pub fn of(p: Plan, c: Constraint, s: Simulation) -> Chain {
     traced(p, c, s, first_of(&c.order, p.tasks, last_tasks(p, s)))
 }
 
-pub fn begin(p: Plan, c: Constraint, s: Simulation, digits: usize) {
-    put::end_line();
-    put_last(&c.order, p.tasks, s.response, last_tasks(p, s));
-    put_heads(digits);
+pub fn begin(
+    out: &mut Vec<u8>,
+    p: Plan,
+    c: Constraint,
+    s: Simulation,
+    digits: usize,
+) -> Result<(), AllocError> {
+    put::end_line(out)?;
+    put_last(out, &c.order, p.tasks, s.response, last_tasks(p, s))?;
+    put_heads(out, digits)
 }
 
-pub fn end(s: Simulation, digits: usize) {
-    put_sum(s.response, digits);
+pub fn end(out: &mut Vec<u8>, s: Simulation, digits: usize) -> Result<(), AllocError> {
+    put_sum(out, s.response, digits)
 }

@@ -4,7 +4,7 @@ use show_words::get::{count, entry, instant};
 use task_set::{contains, inserted, member_count};
 
 // A task of the order, with what held it until its start. At instant 0 nothing holds a task.
-#[derive(Drop)]
+#[derive(Clone, Copy)]
 pub struct Row {
     pub task: usize,
     // Its type, and how many units of this there are.

@@ -5,112 +5,140 @@ use crate::{chain, held};
 use plan::{Constraint, MOST_TASKS, Plan};
 use show_words::{names, put};
 use simulation::Simulation;
+use std::alloc::AllocError;
 
-fn put_awaited(set: u64) {
+fn put_awaited(out: &mut Vec<u8>, set: u64) -> Result<(), AllocError> {
     if set != 0 {
-        names::tasks(set);
-        put::text(b", which it waits for");
+        names::tasks(out, set)?;
+        put::text(out, b", which it waits for")?;
     }
+    Ok(())
 }
 
 // All units of a type that has several.
-fn put_all(units: u32) {
+fn put_all(out: &mut Vec<u8>, units: u32) -> Result<(), AllocError> {
     if units == 2 {
-        put::text(b"both");
+        put::text(out, b"both")
     } else {
-        put::words(b"all ", units as u64, b"");
+        put::words(out, b"all ", units as u64, b"")
     }
 }
 
-fn put_one_unit(kind: usize, t: usize) {
-    put::words(b"the unit of type ", kind as u64, b", which ");
-    names::task(t);
-    put::text(b" had");
+fn put_one_unit(out: &mut Vec<u8>, kind: usize, t: usize) -> Result<(), AllocError> {
+    put::words(out, b"the unit of type ", kind as u64, b", which ")?;
+    names::task(out, t)?;
+    put::text(out, b" had")
 }
 
-fn put_units(r: Row) {
-    put_all(r.units);
-    put::words(b" units of type ", r.kind as u64, b", taken until ");
-    names::tasks(r.freeing);
-    put::text(b" finished");
+fn put_units(out: &mut Vec<u8>, r: Row) -> Result<(), AllocError> {
+    put_all(out, r.units)?;
+    put::words(out, b" units of type ", r.kind as u64, b", taken until ")?;
+    names::tasks(out, r.freeing)?;
+    put::text(out, b" finished")
 }
 
 // What stands between a reason and those before it, if there are any.
-fn put_also(others: bool) {
+fn put_also(out: &mut Vec<u8>, others: bool) -> Result<(), AllocError> {
     if others {
-        put::text(b"; ");
+        put::text(out, b"; ")?;
     }
+    Ok(())
 }
 
-fn put_freeing(order: &[usize; MOST_TASKS], n: usize, r: Row) {
+fn put_freeing(
+    out: &mut Vec<u8>,
+    order: &[usize; MOST_TASKS],
+    n: usize,
+    r: Row,
+) -> Result<(), AllocError> {
     if r.freeing == 0 {
-        return;
+        return Ok(());
     }
-    put_also(r.awaited != 0);
+    put_also(out, r.awaited != 0)?;
     if r.units == 1 {
-        put_one_unit(r.kind, held::first_of(order, n, r.freeing));
+        put_one_unit(out, r.kind, held::first_of(order, n, r.freeing))
     } else {
-        put_units(r);
+        put_units(out, r)
     }
 }
 
-fn put_released(r: Row) {
+fn put_released(out: &mut Vec<u8>, r: Row) -> Result<(), AllocError> {
     if !r.released {
-        return;
+        return Ok(());
     }
-    put_also(!held::waits_for_none(r));
-    put::words(b"its N line: not before ", r.start as u64, b"");
+    put_also(out, !held::waits_for_none(r))?;
+    put::words(out, b"its N line: not before ", r.start as u64, b"")
 }
 
-fn put_behind(r: Row) {
+fn put_behind(out: &mut Vec<u8>, r: Row) -> Result<(), AllocError> {
     if !r.behind {
-        return;
+        return Ok(());
     }
-    put_also(!held::waits_for_none(r) | r.released);
-    put::text(b"the order: ");
-    names::task(r.previous);
-    put::text(b", just before it, starts only then");
+    put_also(out, !held::waits_for_none(r) | r.released)?;
+    put::text(out, b"the order: ")?;
+    names::task(out, r.previous)?;
+    put::text(out, b", just before it, starts only then")
 }
 
-fn put_reasons(order: &[usize; MOST_TASKS], n: usize, r: Row) {
+fn put_reasons(
+    out: &mut Vec<u8>,
+    order: &[usize; MOST_TASKS],
+    n: usize,
+    r: Row,
+) -> Result<(), AllocError> {
     if r.start == 0 {
-        put::text(b"nothing");
+        put::text(out, b"nothing")
     } else {
-        put_awaited(r.awaited);
-        put_freeing(order, n, r);
-        put_released(r);
-        put_behind(r);
+        put_awaited(out, r.awaited)?;
+        put_freeing(out, order, n, r)?;
+        put_released(out, r)?;
+        put_behind(out, r)
     }
 }
 
-fn put_row(order: &[usize; MOST_TASKS], n: usize, r: Row, digits: usize) {
-    put::right(r.task as u64, 4);
-    put::under(b"type", 1, r.kind as u64);
-    put::under(b"start", digits, r.start as u64);
-    put::under(b"finish", digits, r.finish as u64);
-    put::text(b"  ");
-    put_reasons(order, n, r);
-    put::end_line();
+fn put_row(
+    out: &mut Vec<u8>,
+    order: &[usize; MOST_TASKS],
+    n: usize,
+    r: Row,
+    digits: usize,
+) -> Result<(), AllocError> {
+    put::right(out, r.task as u64, 4)?;
+    put::under(out, b"type", 1, r.kind as u64)?;
+    put::under(out, b"start", digits, r.start as u64)?;
+    put::under(out, b"finish", digits, r.finish as u64)?;
+    put::text(out, b"  ")?;
+    put_reasons(out, order, n, r)?;
+    put::end_line(out)
 }
 
 // The row of a task, or its link in the chain.
 fn put_one<'a>(
+    out: &mut Vec<u8>,
     order: &'a [usize; MOST_TASKS],
     n: usize,
     r: Row,
     digits: usize,
     h: Chain,
     links: bool,
-) {
+) -> Result<(), AllocError> {
     if links {
-        chain::put_link(order, n, r, h, digits);
+        chain::put_link(out, order, n, r, h, digits)
     } else {
-        put_row(order, n, r, digits);
+        put_row(out, order, n, r, digits)
     }
 }
 
 // The rows of all tasks in the order, or the links of the chain.
-fn put_rows(p: Plan, c: Constraint, s: Simulation, digits: usize, h: Chain, links: bool) {
+fn put_rows(
+    out: &mut Vec<u8>,
+    p: Plan,
+    c: Constraint,
+    s: Simulation,
+    digits: usize,
+    h: Chain,
+    links: bool,
+) -> Result<(), AllocError> {
     let n = p.tasks;
     let mut i = 0;
     while i < n {
@@ -127,26 +155,27 @@ fn put_rows(p: Plan, c: Constraint, s: Simulation, digits: usize, h: Chain, link
             n,
             at,
         );
-        put_one(&c.order, n, r, digits, h, links);
+        put_one(out, &c.order, n, r, digits, h, links)?;
     }
+    Ok(())
 }
 
-fn put_heads(digits: usize) {
-    put::text(b"task");
-    put::head(b"type", 1);
-    put::head(b"start", digits);
-    put::head(b"finish", digits);
-    put::text(b"  held until its start by\n");
+fn put_heads(out: &mut Vec<u8>, digits: usize) -> Result<(), AllocError> {
+    put::text(out, b"task")?;
+    put::head(out, b"type", 1)?;
+    put::head(out, b"start", digits)?;
+    put::head(out, b"finish", digits)?;
+    put::text(out, b"  held until its start by\n")
 }
 
 // Of a plan that the check takes.
-pub fn show(p: Plan, c: Constraint) {
+pub fn show(out: &mut Vec<u8>, p: Plan, c: Constraint) -> Result<(), AllocError> {
     let s = simulation::bound(p, c);
     let digits = put::digits(s.response as u64);
     let h = chain::of(p, c, s);
-    put_heads(digits);
-    put_rows(p, c, s, digits, h, false);
-    chain::begin(p, c, s, digits);
-    put_rows(p, c, s, digits, h, true);
-    chain::end(s, digits);
+    put_heads(out, digits)?;
+    put_rows(out, p, c, s, digits, h, false)?;
+    chain::begin(out, p, c, s, digits)?;
+    put_rows(out, p, c, s, digits, h, true)?;
+    chain::end(out, s, digits)
 }

@@ -2,61 +2,74 @@
 use crate::cells::{less, middle, place, plus, smaller};
 use crate::{put, svg};
 use plan::MOST_TASKS;
+use std::alloc::AllocError;
 
 // A straight arrow.
-fn straight(x1: u64, y1: u64, x2: u64, y2: u64) {
-    svg::begin_path();
-    svg::step(b"M", x1, y1);
-    svg::step(b"L", x2, y2);
-    svg::end_path();
+fn straight(out: &mut Vec<u8>, x1: u64, y1: u64, x2: u64, y2: u64) -> Result<(), AllocError> {
+    svg::begin_path(out)?;
+    svg::step(out, b"M", x1, y1)?;
+    svg::step(out, b"L", x2, y2)?;
+    svg::end_path(out)
 }
 
 // An arrow within a lane, as an arc above the bars that may lie between.
-fn arc(x1: u64, x2: u64, y: u64, bar: u64) {
-    svg::begin_path();
-    svg::step(b"M", x1, y);
+fn arc(out: &mut Vec<u8>, x1: u64, x2: u64, y: u64, bar: u64) -> Result<(), AllocError> {
+    svg::begin_path(out)?;
+    svg::step(out, b"M", x1, y)?;
     svg::step(
+        out,
         b"Q",
         middle(x1, x2),
         less(y, smaller(plus(bar, 110), less(x2, x1))),
-    );
-    svg::step(b" ", x2, y);
-    svg::end_path();
+    )?;
+    svg::step(out, b" ", x2, y)?;
+    svg::end_path(out)
 }
 
 // An arrow to a bar from another one, each given by where it begins or ends and its upper end: within a lane, or between the corners
 // that are nearest, so that no bar of the two lanes hides it.
-fn arrow(x1: u64, y1: u64, x2: u64, y2: u64, bar: u64) {
+fn arrow(
+    out: &mut Vec<u8>,
+    x1: u64,
+    y1: u64,
+    x2: u64,
+    y2: u64,
+    bar: u64,
+) -> Result<(), AllocError> {
     if y1 < y2 {
-        straight(x1, plus(y1, bar), x2, y2);
+        straight(out, x1, plus(y1, bar), x2, y2)?;
     }
     if y2 < y1 {
-        straight(x1, y1, x2, plus(y2, bar));
+        straight(out, x1, y1, x2, plus(y2, bar))?;
     }
     if (y1 == y2) & (x1 < x2) {
-        arc(x1, x2, plus(y1, bar / 2), bar);
+        arc(out, x1, x2, plus(y1, bar / 2), bar)?;
     }
+    Ok(())
 }
 
 fn arrow_from<'a>(
+    out: &mut Vec<u8>,
     lefts: &'a [u64; MOST_TASKS],
     rights: &'a [u64; MOST_TASKS],
     ys: &'a [u64; MOST_TASKS],
     from: usize,
     to: usize,
     bar: u64,
-) {
+) -> Result<(), AllocError> {
     arrow(
+        out,
         place(rights, from),
         place(ys, from),
         place(lefts, to),
         place(ys, to),
         bar,
-    );
+    )
 }
 
 // The arrows to a task, of those from some tasks.
 fn arrows_to<'a>(
+    out: &mut Vec<u8>,
     lefts: &'a [u64; MOST_TASKS],
     rights: &'a [u64; MOST_TASKS],
     ys: &'a [u64; MOST_TASKS],
@@ -64,22 +77,24 @@ fn arrows_to<'a>(
     to: usize,
     bar: u64,
     n: usize,
-) {
+) -> Result<(), AllocError> {
     let mut f = 0;
     while f < n {
         if task_set::contains(from, f) {
-            arrow_from(lefts, rights, ys, f, to, bar);
+            arrow_from(out, lefts, rights, ys, f, to, bar)?;
         }
         f += 1;
     }
+    Ok(())
 }
 
 // The arrows to a task have a name, by which they are drawn again over the bars under the pointer.
-fn begin_group(to: usize) {
-    put::words(b"<g id=\"to", to as u64, b"\">\n");
+fn begin_group(out: &mut Vec<u8>, to: usize) -> Result<(), AllocError> {
+    put::words(out, b"<g id=\"to", to as u64, b"\">\n")
 }
 
 fn group<'a>(
+    out: &mut Vec<u8>,
     lefts: &'a [u64; MOST_TASKS],
     rights: &'a [u64; MOST_TASKS],
     ys: &'a [u64; MOST_TASKS],
@@ -87,12 +102,13 @@ fn group<'a>(
     to: usize,
     bar: u64,
     n: usize,
-) {
+) -> Result<(), AllocError> {
     if from != 0 {
-        begin_group(to);
-        arrows_to(lefts, rights, ys, from, to, bar, n);
-        svg::end_group();
+        begin_group(out, to)?;
+        arrows_to(out, lefts, rights, ys, from, to, bar, n)?;
+        svg::end_group(out)?;
     }
+    Ok(())
 }
 
 // How many arrows there are.
@@ -110,39 +126,42 @@ pub fn count(predecessors: &[u64; MOST_TASKS], n: usize) -> u64 {
 }
 
 // Many arrows are thinner.
-fn begin_arrows(count: u64) {
+fn begin_arrows(out: &mut Vec<u8>, count: u64) -> Result<(), AllocError> {
     if 200 < count {
-        put::text(b"<g class=\"arrows many\">\n");
+        put::text(out, b"<g class=\"arrows many\">\n")
     } else {
-        put::text(b"<g class=\"arrows\">\n");
+        put::text(out, b"<g class=\"arrows\">\n")
     }
 }
 
 // All arrows, to be drawn under the bars.
 pub fn draw<'a>(
+    out: &mut Vec<u8>,
     lefts: &'a [u64; MOST_TASKS],
     rights: &'a [u64; MOST_TASKS],
     ys: &'a [u64; MOST_TASKS],
     predecessors: &'a [u64; MOST_TASKS],
     bar: u64,
     n: usize,
-) {
-    begin_arrows(count(predecessors, n));
-    groups(lefts, rights, ys, predecessors, bar, n);
-    svg::end_group();
+) -> Result<(), AllocError> {
+    begin_arrows(out, count(predecessors, n))?;
+    groups(out, lefts, rights, ys, predecessors, bar, n)?;
+    svg::end_group(out)
 }
 
 fn groups<'a>(
+    out: &mut Vec<u8>,
     lefts: &'a [u64; MOST_TASKS],
     rights: &'a [u64; MOST_TASKS],
     ys: &'a [u64; MOST_TASKS],
     predecessors: &'a [u64; MOST_TASKS],
     bar: u64,
     n: usize,
-) {
+) -> Result<(), AllocError> {
     let mut t = 0;
     while t < n {
         group(
+            out,
             lefts,
             rights,
             ys,
@@ -150,14 +169,21 @@ fn groups<'a>(
             t,
             bar,
             n,
-        );
+        )?;
         t += 1;
     }
+    Ok(())
 }
 
 // The arrows to a task once more, to be seen only under the pointer.
-pub fn again(from: u64, to: usize) {
+pub fn again(out: &mut Vec<u8>, from: u64, to: usize) -> Result<(), AllocError> {
     if from != 0 {
-        put::words(b"<use class=\"again\" href=\"#to", to as u64, b"\"/>\n");
+        put::words(
+            out,
+            b"<use class=\"again\" href=\"#to",
+            to as u64,
+            b"\"/>\n",
+        )?;
     }
+    Ok(())
 }

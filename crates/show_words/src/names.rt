@@ -1,50 +1,58 @@
 // Tasks and types by their numbers: "task 3", "tasks 3 and 5", "tasks 3, 5 and 8".
 use crate::put;
+use std::alloc::AllocError;
 
 // What stands before a member: nothing before the first, "and" before the last.
-fn separator(set: u64, t: usize) {
+fn separator(out: &mut Vec<u8>, set: u64, t: usize) -> Result<(), AllocError> {
     let before = task_set::member_count(task_set::members_below(set, t));
     let all = task_set::member_count(set);
     if before == 0 {
-        return;
+        return Ok(());
     }
     if (before as u64) + 1 < (all as u64) {
-        put::text(b", ");
+        put::text(out, b", ")
     } else {
-        put::text(b" and ");
+        put::text(out, b" and ")
     }
 }
 
-fn member(set: u64, t: usize) {
+fn member(out: &mut Vec<u8>, set: u64, t: usize) -> Result<(), AllocError> {
     if task_set::contains(set, t) {
-        separator(set, t);
-        put::number(t as u64);
+        separator(out, set, t)?;
+        put::number(out, t as u64)?;
     }
+    Ok(())
 }
 
 // The members alone.
-pub fn numbers(set: u64) {
+pub fn numbers(out: &mut Vec<u8>, set: u64) -> Result<(), AllocError> {
     let mut t = 0;
     while t < plan::MOST_TASKS {
-        member(set, t);
+        member(out, set, t)?;
         t += 1;
     }
+    Ok(())
 }
 
 // The members after a word for one or a word for several.
-pub fn named<'a>(one: &'a [u8], several: &'a [u8], set: u64) {
+pub fn named<'a>(
+    out: &mut Vec<u8>,
+    one: &'a [u8],
+    several: &'a [u8],
+    set: u64,
+) -> Result<(), AllocError> {
     if task_set::member_count(set) == 1 {
-        put::text(one);
+        put::text(out, one)?;
     } else {
-        put::text(several);
+        put::text(out, several)?;
     }
-    numbers(set);
+    numbers(out, set)
 }
 
-pub fn task(t: usize) {
-    put::words(b"task ", t as u64, b"");
+pub fn task(out: &mut Vec<u8>, t: usize) -> Result<(), AllocError> {
+    put::words(out, b"task ", t as u64, b"")
 }
 
-pub fn tasks(set: u64) {
-    named(b"task ", b"tasks ", set);
+pub fn tasks(out: &mut Vec<u8>, set: u64) -> Result<(), AllocError> {
+    named(out, b"task ", b"tasks ", set)
 }

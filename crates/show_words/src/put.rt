@@ -1,67 +1,70 @@
-// Words and numbers on standard output.
-use libc::STDOUT_FILENO;
+// Words and numbers, put behind what is to be shown.
+use itoa::Buffer;
+use std::alloc::AllocError;
 
-pub fn text(s: &[u8]) {
-    io::write_all(STDOUT_FILENO, s);
+pub fn text(out: &mut Vec<u8>, s: &[u8]) -> Result<(), AllocError> {
+    out.extend_from_slice(s)
 }
 
-pub fn number(n: u64) {
-    io::print_decimal(STDOUT_FILENO, n);
+pub fn number(out: &mut Vec<u8>, n: u64) -> Result<(), AllocError> {
+    let mut buffer = Buffer::new();
+    text(out, buffer.format(n).as_bytes())
 }
 
 // A number between words.
-pub fn words(before: &[u8], n: u64, after: &[u8]) {
-    text(before);
-    number(n);
-    text(after);
+pub fn words(out: &mut Vec<u8>, before: &[u8], n: u64, after: &[u8]) -> Result<(), AllocError> {
+    text(out, before)?;
+    number(out, n)?;
+    text(out, after)
 }
 
-pub fn end_line() {
-    text(b"\n");
+pub fn end_line(out: &mut Vec<u8>) -> Result<(), AllocError> {
+    text(out, b"\n")
 }
 
 // How many digits a number has.
 pub fn digits(n: u64) -> usize {
-    let mut text = [0u8; 20];
-    io::decimal(n, &mut text)
+    let mut buffer = Buffer::new();
+    buffer.format(n).len()
 }
 
-fn space() {
-    text(b" ");
+fn space(out: &mut Vec<u8>) -> Result<(), AllocError> {
+    text(out, b" ")
 }
 
-fn spaces(n: usize) {
+fn spaces(out: &mut Vec<u8>, n: usize) -> Result<(), AllocError> {
     let mut i = 0;
     while i < n {
-        space();
+        space(out)?;
         i += 1;
     }
+    Ok(())
 }
 
 // A number at the right of so many columns.
-pub fn right(n: u64, width: usize) {
+pub fn right(out: &mut Vec<u8>, n: u64, width: usize) -> Result<(), AllocError> {
     let used = digits(n);
     if used < width {
-        spaces(width - used);
+        spaces(out, width - used)?;
     }
-    number(n);
+    number(out, n)
 }
 
 // The head of a column, two spaces after the column before. A column is as wide as its head, or as so many digits.
-pub fn head(s: &[u8], digits: usize) {
-    text(b"  ");
+pub fn head(out: &mut Vec<u8>, s: &[u8], digits: usize) -> Result<(), AllocError> {
+    text(out, b"  ")?;
     if s.len() < digits {
-        spaces(digits - s.len());
+        spaces(out, digits - s.len())?;
     }
-    text(s);
+    text(out, s)
 }
 
 // A number in the column with this head.
-pub fn under(head: &[u8], digits: usize, n: u64) {
-    text(b"  ");
+pub fn under(out: &mut Vec<u8>, head: &[u8], digits: usize, n: u64) -> Result<(), AllocError> {
+    text(out, b"  ")?;
     if head.len() < digits {
-        right(n, digits);
+        right(out, n, digits)
     } else {
-        right(n, head.len());
+        right(out, n, head.len())
     }
 }

@@ -29,6 +29,10 @@ use Rattle.simulation.specs.Simulated.{outside, times_verdict, simulation_verdic
 use Rattle.simulation_run.specs.Steps.{Runnable, Listed}
 use Rattle.simulation_times.proofs.Lowest.{lowest_all}
 
+-- the check takes the plan and the constraint
+pub checked : (p : Plan) (c : Constraint) {v : Verdict} → v ≡ verdict p c → v.number ≡ 0 → (verdict p c).number ≡ 0
+checked p c e h = sym (ap (λ (v : Verdict). v.number) e) ∙ h
+
 module _ (p : Plan) (c : Constraint) (e : (verdict p c).number ≡ 0) where
   abbrev a : Accepted p c
   a = accepted p c e
@@ -57,7 +61,7 @@ module _ (p : Plan) (c : Constraint) (e : (verdict p c).number ≡ 0) where
         (h.at_position r.0 r.1 ∙ ap (time_of p.wcet (task_at c r.0)) (sym (type_entry a r.0 r.1)))
 
     pub worst-runnable : Runnable p c by_task
-    worst-runnable = runnable by_task (worst p c) (omega (arith, h.whole, a.few-tasks)) worst-listed (worst_allowed a)
+    worst-runnable = runnable by_task (worst p c) (omega (arith, h.whole, a.few_tasks)) worst-listed (worst_allowed a)
 
   pub bound-runs : {r : Simulation} → r ≡ ran p c (worst p c) → r ≡ worst_case p c
   unfolding worst_case

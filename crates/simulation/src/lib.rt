@@ -1,4 +1,6 @@
 // The simulation of a plan under a constraint, and the bound (document 01, "Running rules").
+#![tactic(auto)]
+
 ghost use Rattle.std.specs.Prelude.{◌≡◌, ◌+◌, ◌≤◌};
 ghost use Rattle.plan.specs.Refusals.{refused};
 ghost use Rattle.dispatch_theory.specs.Sums.{sum};

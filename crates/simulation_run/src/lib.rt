@@ -1,4 +1,6 @@
 // The run of a plan and a constraint that the check takes, position by position: its cost does not grow with the times.
+#![tactic(auto)]
+
 ghost use Rattle.simulation_run.specs.Steps.{RunOf, Runnable};
 
 use plan::{Constraint, MOST_TASKS, Plan};
@@ -6,7 +8,7 @@ use simulation_waits::{ALL_UNITS, free_first, later, latest_finish};
 
 // The start and the finish of each task, by task number, and the response; zeros where refused.
 #[repr(C)]
-#[derive(Drop)]
+#[derive(Clone, Copy)]
 pub struct Simulation {
     pub number: u32,
     pub place: usize,

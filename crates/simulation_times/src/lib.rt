@@ -1,4 +1,6 @@
 // Times by task number: those of the chosen types, and 18.
+#![tactic(auto)]
+
 ghost use Rattle.std.specs.Prelude.{◌≡◌, length};
 ghost use Rattle.plan.specs.Steps.{Positions};
 ghost use Rattle.simulation_times.specs.Times.{ChosenTimes, LowestOf, outside_at};

@@ -1,4 +1,6 @@
 // What a position of the order waits for: the latest finish of its predecessors, and the unit that is free first.
+#![tactic(auto)]
+
 ghost use Rattle.std.specs.Prelude.{◌≡◌, ◌<◌, ◌≤◌, max};
 ghost use Rattle.plan.specs.Rules.{most_types, most_units};
 ghost use Rattle.simulation_waits.specs.Waits.{FreeFirst, latest_of};

@@ -1,4 +1,6 @@
 // How much is to spare (document 02, 2): the slack of each task with a deadline, which the paper calls its margin.
+#![tactic(auto)]
+
 ghost use Rattle.std.specs.Prelude.{◌≡◌, ◌<◌, nat_abs, pos, ◌-ℤ◌, ltb};
 ghost use Rattle.task_set.specs.Bounded.{any, tabulate};
 ghost use Rattle.plan.specs.Rules.{most_tasks};
@@ -21,7 +23,7 @@ pub struct Slacks {
 }
 
 // A number that may be below zero, by its sign and its size.
-#[derive(Drop)]
+#[derive(Clone, Copy)]
 pub struct Parts {
     pub negative: bool,
     pub size: usize,

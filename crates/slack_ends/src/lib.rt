@@ -1,1 +1,2 @@
 // Both ends of the range of margins are reached (proofs/Ends.antt): no function.
+#![tactic(auto)]

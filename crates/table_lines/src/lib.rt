@@ -1,5 +1,6 @@
 // Numbers and lines, written into a lent buffer: what the timetable, the margins and the proposed order are made of, and the line of a
 // refusal (document 01, "Timetable and program").
+#![tactic(auto)]
 
 mod decimal;
 mod fields;

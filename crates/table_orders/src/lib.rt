@@ -1,4 +1,6 @@
 // The order that the bench proposes, as C lines in a lent buffer (document 02, 8).
+#![tactic(auto)]
+
 ghost use Rattle.std.specs.Prelude.{◌≡◌, ◌≤◌, length};
 ghost use Rattle.plan.specs.Rules.{most_tasks};
 ghost use Rattle.plan.specs.Refusals.{refused};

@@ -1,4 +1,6 @@
 // The lines of a timetable, from the arrays of a run.
+#![tactic(auto)]
+
 ghost use Rattle.std.specs.Prelude.{◌≡◌, ◌∷◌, ◌*◌, ◌≤◌, length};
 ghost use Rattle.plan.specs.Rules.{most_tasks};
 ghost use Rattle.table_lines.specs.Texts.{field};

@@ -1,4 +1,6 @@
 // Writes the margins as text, from the arrays of a run (document 02, 2).
+#![tactic(auto)]
+
 ghost use Rattle.std.specs.Prelude.{◌<◌};
 ghost use Rattle.plan.specs.Rules.{most_tasks};
 ghost use Rattle.table_lines.specs.Steps.{Put, Room};

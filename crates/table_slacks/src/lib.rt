@@ -1,4 +1,6 @@
 // The margins of a plan as text, in a lent buffer (document 02, 2).
+#![tactic(auto)]
+
 ghost use Rattle.std.specs.Prelude.{◌≡◌, length};
 ghost use Rattle.plan.specs.Refusals.{refused};
 ghost use Rattle.table_lines.specs.Steps.{Outcome};

@@ -1,5 +1,7 @@
 // Sets of task numbers 0 to 63, as the bits of a word: bit t for task t.
 // Every function takes every number: one of 64 or more is in no set.
+#![tactic(auto)]
+
 ghost use Rattle.std.specs.Prelude.{◌≡◌};
 ghost use Rattle.task_set.specs.Sets.{below, has, insert, intersect, lowest, remove, size, subset, without};
 

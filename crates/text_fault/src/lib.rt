@@ -1,4 +1,6 @@
 // The faults 3 to 7 of a line.
+#![tactic(auto)]
+
 ghost use Rattle.std.specs.Prelude.{◌≡◌, cond};
 ghost use Rattle.text_fault.specs.Faults.{first_fault, kind_of, repeated, unknown};
 
@@ -20,7 +22,7 @@ pub const KIND_N: u32 = 4;
 pub const KIND_C: u32 = 5;
 
 // Of the lines before: the kind of the last, and the tasks with a T line, with an N line and with a C line.
-#[derive(Drop)]
+#[derive(Clone, Copy)]
 pub struct Seen {
     pub kind: u32,
     pub timed: u64,

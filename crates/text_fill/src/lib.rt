@@ -1,4 +1,6 @@
 // What a line without a fault adds, one function for each thing that is kept.
+#![tactic(auto)]
+
 ghost use Rattle.std.specs.Prelude.{◌≡◌, cond, false, ℕ, ◌+◌, ◌≤◌, ◌<◌, max};
 ghost use Rattle.task_set.specs.Sets.{insert};
 ghost use Rattle.plan.specs.Rules.{most_tasks, pair_index, predecessors_of};

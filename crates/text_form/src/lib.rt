@@ -1,4 +1,6 @@
 // The form of a line: a letter, then decimal fields, each after one tab; and where in a text a line ends.
+#![tactic(auto)]
+
 ghost use Rattle.std.specs.Prelude.{◌≡◌, ◌+◌, ◌*◌, ◌^◌, ◌<◌, ◌≤◌, drop, take};
 ghost use Rattle.text_form.specs.Form.{digit_value, is_digit, line_of, most_digits, newline, split, tab};
 ghost use Rattle.text_form.specs.Steps.{Digits, field_of, fields_of, first_part, form_from, line_at, no_fields, part_length};
@@ -13,7 +15,7 @@ const MOST_FIELDS: usize = 4;
 
 // A line of one of the six forms: U, type, count; T, task, type, best, worst; A, from, to; D, task, instant; N, task, instant;
 // C, task, type.
-#[derive(Drop)]
+#[derive(Clone, Copy)]
 pub enum Line {
     Units(u32, u32),
     Times(u32, u32, u32, u32),

@@ -1,4 +1,6 @@
 // What a line says by itself: numbers out of range (3), and numbers at odds with each other (4).
+#![tactic(auto)]
+
 ghost use Rattle.std.specs.Prelude.{◌≡◌};
 ghost use Rattle.text_range.specs.Ranges.{at_odds, is_deadline, is_release, is_task, is_time, is_type, out_of_range};
 

@@ -1,4 +1,6 @@
 // Writes the timetable of a plan into a lent buffer (document 01, "Timetable and program").
+#![tactic(auto)]
+
 ghost use Rattle.std.specs.Prelude.{◌≡◌, ◌≤◌, length};
 ghost use Rattle.plan.specs.Rules.{most_tasks};
 ghost use Rattle.plan.specs.Refusals.{refused};

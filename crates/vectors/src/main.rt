@@ -2,87 +2,91 @@
 // what the text is, a line with a count n, and n bytes, in which a letter may stand for a limit (limits.rt). For each it writes
 // that line with the number and the place that reading gives; if the text is accepted, a line with its counts and what is kept of
 // task 3 and of position 3; then the answer, and the answer with the margins.
+#![tactic(auto)]
+
 ghost use Rattle.std.specs.Prelude.{◌<◌, ◌≤◌};
 
 use bench_answer::{MOST_ANSWER, MOST_SLACK_ANSWER};
-use libc::{STDIN_FILENO, STDOUT_FILENO};
 use plan::{Constraint, Plan};
+use std::io;
+use std::io::{BufWriter, Read, Write};
 
 mod limits;
 
 // No input is longer, nor any text.
 const ROOM: usize = 262144;
 
-fn put(s: &[u8]) {
-    io::write_all(STDOUT_FILENO, s);
+fn put<W: Write>(out: &mut W, s: &[u8]) -> io::Result<()> {
+    out.write_all(s)
 }
 
-fn put_number(n: u64) {
-    put(b"\t");
-    io::print_decimal(STDOUT_FILENO, n);
+fn put_number<W: Write>(out: &mut W, n: u64) -> io::Result<()> {
+    write!(out, "\t{n}")
 }
 
-fn put_named(name: &[u8], n: u64) {
-    put(b"\t");
-    put(name);
-    put(b" ");
-    io::print_decimal(STDOUT_FILENO, n);
+fn put_named<W: Write>(out: &mut W, name: &str, n: u64) -> io::Result<()> {
+    write!(out, "\t{name} {n}")
 }
 
-fn show_plan(p: Plan) {
-    put_named(b"types", p.types as u64);
-    put_named(b"units", p.units[1] as u64);
-    put_named(b"tasks", p.tasks as u64);
-    put_named(b"best", plan::time_of(&p.bcet, 3, 0) as u64);
-    put_named(b"worst", plan::time_of(&p.wcet, 3, 0) as u64);
-    put_named(b"best", plan::time_of(&p.bcet, 3, 1) as u64);
-    put_named(b"worst", plan::time_of(&p.wcet, 3, 1) as u64);
-    put_named(b"predecessors", plan::predecessors_of(&p.predecessors, 3));
-    put_named(b"deadline", plan::deadline_of(&p.deadlines, 3) as u64);
-    put_named(b"release", plan::release_of(&p.releases, 3) as u64);
+fn show_plan<W: Write>(out: &mut W, p: Plan) -> io::Result<()> {
+    put_named(out, "types", p.types as u64)?;
+    put_named(out, "units", p.units[1] as u64)?;
+    put_named(out, "tasks", p.tasks as u64)?;
+    put_named(out, "best", plan::time_of(&p.bcet, 3, 0) as u64)?;
+    put_named(out, "worst", plan::time_of(&p.wcet, 3, 0) as u64)?;
+    put_named(out, "best", plan::time_of(&p.bcet, 3, 1) as u64)?;
+    put_named(out, "worst", plan::time_of(&p.wcet, 3, 1) as u64)?;
+    put_named(
+        out,
+        "predecessors",
+        plan::predecessors_of(&p.predecessors, 3),
+    )?;
+    put_named(out, "deadline", plan::deadline_of(&p.deadlines, 3) as u64)?;
+    put_named(out, "release", plan::release_of(&p.releases, 3) as u64)
 }
 
-fn show_constraint(c: Constraint) {
-    put_named(b"len", c.len as u64);
-    put_named(b"task", c.order[3] as u64);
-    put_named(b"type", c.chosen[3] as u64);
+fn show_constraint<W: Write>(out: &mut W, c: Constraint) -> io::Result<()> {
+    put_named(out, "len", c.len as u64)?;
+    put_named(out, "task", c.order[3] as u64)?;
+    put_named(out, "type", c.chosen[3] as u64)
 }
 
-fn show_reading(s: &[u8]) {
+fn show_reading<W: Write>(out: &mut W, s: &[u8]) -> io::Result<()> {
     let a = plan_text::read(s);
     let number = a.number;
-    put_number(number as u64);
-    put_number(a.place as u64);
-    put(b"\n");
+    put_number(out, number as u64)?;
+    put_number(out, a.place as u64)?;
+    put(out, b"\n")?;
     if number == 0 {
-        show_plan(a.plan);
-        show_constraint(a.constraint);
-        put(b"\n");
+        show_plan(out, a.plan)?;
+        show_constraint(out, a.constraint)?;
+        put(out, b"\n")?;
     }
+    Ok(())
 }
 
-fn show_answer(s: &[u8]) {
-    let mut out = [0; MOST_ANSWER];
-    let length = bench_answer::answer(s, &mut out);
-    put(&out[..length]);
+fn show_answer<W: Write>(out: &mut W, s: &[u8]) -> io::Result<()> {
+    let mut text = [0; MOST_ANSWER];
+    let length = bench_answer::answer(s, &mut text);
+    put(out, &text[..length])
 }
 
-fn show_slack_answer(s: &[u8]) {
-    let mut out = [0; MOST_SLACK_ANSWER];
-    let length = bench_answer::slack_answer(s, &mut out);
-    put(&out[..length]);
+fn show_slack_answer<W: Write>(out: &mut W, s: &[u8]) -> io::Result<()> {
+    let mut text = [0; MOST_SLACK_ANSWER];
+    let length = bench_answer::slack_answer(s, &mut text);
+    put(out, &text[..length])
 }
 
-fn show_text(s: &[u8]) {
-    show_reading(s);
-    show_answer(s);
-    show_slack_answer(s);
+fn show_text<W: Write>(out: &mut W, s: &[u8]) -> io::Result<()> {
+    show_reading(out, s)?;
+    show_answer(out, s)?;
+    show_slack_answer(out, s)
 }
 
-fn show(s: &[u8]) {
+fn show<W: Write>(out: &mut W, s: &[u8]) -> io::Result<()> {
     let mut text = [0; ROOM];
     let n = limits::with_limits(s, &mut text);
-    show_text(part(&text, 0, n));
+    show_text(out, part(&text, 0, n))
 }
 
 // The bytes from a up to e, or none where that is no part.
@@ -130,19 +134,19 @@ fn count_of(line: &[u8]) -> usize
 }
 
 // Where the record that begins at a position ends: past its text, and no further than the input.
-fn record(bytes: &[u8], at: usize) -> usize {
+fn record<W: Write>(out: &mut W, bytes: &[u8], at: usize) -> io::Result<usize> {
     let named = line_end(bytes, at);
     let counted = line_end(bytes, following(named));
     let start = following(counted);
     let n = count_of(part(bytes, following(named), counted));
-    put(part(bytes, at, named));
+    put(out, part(bytes, at, named))?;
     let left = part(bytes, start, bytes.len());
     if left.len() < n {
-        show(left);
-        return bytes.len();
+        show(out, left)?;
+        return Ok(bytes.len());
     }
-    show(part(left, 0, n));
-    start + n
+    show(out, part(left, 0, n))?;
+    Ok(start + n)
 }
 
 fn following(at: usize) -> usize
@@ -154,19 +158,22 @@ fn following(at: usize) -> usize
     at + 1
 }
 
-fn records(bytes: &[u8]) {
+fn records<W: Write>(out: &mut W, bytes: &[u8]) -> io::Result<()> {
     let mut at = 0;
     while at < bytes.len() {
-        let next = record(bytes, at);
+        let next = record(out, bytes, at)?;
         if next <= at {
-            return;
+            return Ok(());
         }
         at = next;
     }
+    Ok(())
 }
 
-fn main() {
-    let mut bytes = [0; ROOM];
-    let n = io::read_full(STDIN_FILENO, &mut bytes);
-    records(part(&bytes, 0, n));
+fn main(rt: HostRuntime) -> io::Result<()> {
+    let mut bytes = Vec::new(rt.alloc());
+    rt.stdin().take(ROOM as u64).read_to_end(&mut bytes)?;
+    let mut out = BufWriter::new(rt.alloc(), rt.stdout())?;
+    records(&mut out, &bytes)?;
+    out.flush()
 }

@@ -1,1 +1,2 @@
 // Worked examples of the check, computed from the definitions: no function.
+#![tactic(auto)]

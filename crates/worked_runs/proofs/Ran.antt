@@ -13,7 +13,7 @@ use Rattle.simulation_run.specs.Ran.{ran}
 use Rattle.slack.specs.Margins.{slack_of, is_tightest, tightest, no_slacks, some_slacks, slacks_in, slacks_of}
 use Rattle.worked_examples.specs.PlanA.{times, plan_with, plan_one, plan_due, plan_from, plan_a, plan_warm, five_entries, order_a, order_b}
 use Rattle.worked_examples.specs.Rows.{Holds}
-use Rattle.worked_examples.specs.Table.{run, check, listed, ticks_on, ticks}
+use Rattle.worked_examples.specs.Table.{run, listed, ticks_on, ticks}
 use Rattle.worked_runs.specs.RunTable.{stages, worst_at, journal_at, as_far_as, noted, order_and_more, simulate, margins_of, margins, stage_table, journal_table, simulation_table, release_table, margin_table}
 
 pub stages_reached : Holds stage_table

@@ -1,1 +1,2 @@
 // Worked examples of runs, journals, simulations and margins, computed from the definitions: no function.
+#![tactic(auto)]

@@ -1,1 +1,2 @@
 // Worked examples of schedules and proposals, computed from the definitions: no function.
+#![tactic(auto)]

@@ -1,1 +1,2 @@
 // Worked examples of texts that are read and written, computed from the definitions: no function.
+#![tactic(auto)]

@@ -1,0 +1,11 @@
+-- `adoption_judge::first_mistimed` meets its contract: no fault so far. Assumes nothing.
+use Prim.Native.Nat.{◌-◌}
+use Rattle.task_set.proofs.Search.{Searched}
+use Rattle.adoption_theory.specs.Schedules.{schedule_of, mistimed}
+use Rattle.adoption_judge.proofs.first_mistimed.Given as goal
+
+abbrev pub invariant-loop-i : goal.invariant-loop-i
+invariant-loop-i l = Searched l.len (mistimed l.types l.wcet (schedule_of l.len l.tasks l.used l.starts l.finishes)) l.i
+
+abbrev pub decreases-loop-i : goal.decreases-loop-i
+decreases-loop-i l = l.len - l.i

@@ -1,0 +1,9 @@
+-- `driver_input::input::read_full`: no more is read than there is room for, and what is left of it gets less.
+use Rattle.std.proofs.Common.{◌-◌, ◌≤◌, length}
+use Rattle.driver_input.proofs.input.read_full.Given as goal
+
+abbrev pub invariant-loop-done : goal.invariant-loop-done
+invariant-loop-done g l = l.done ≤ length l.bytes
+
+abbrev pub decreases-loop-done : goal.decreases-loop-done
+decreases-loop-done g l = length l.bytes - l.done

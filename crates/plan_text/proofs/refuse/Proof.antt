@@ -1,9 +1,0 @@
--- `plan_text::refuse` meets its contract. Assumes nothing.
-use borrow.Author.Rules.{rules}
-use Rattle.plan_text.proofs.refuse.Statement.{statement}
-use Rattle.plan_text.proofs.refuse.Tie as tie
-
-pub refuse_spec : {M : Type 1} → statement M
-refuse_spec =
-    tie.close (tie.spec (λ c κs. search rules) (λ c κs. search rules)
-    (λ c. rw (c.before.no-plan.ensures, c.no-constraint.ensures)))

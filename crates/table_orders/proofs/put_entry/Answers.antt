@@ -1,0 +1,27 @@
+-- `table_orders::put_entry` meets its contract. Assumes nothing.
+use mathlib.Core.Path.{◌∙◌}
+use native.Mathlib.Omega.{arith}
+use lib.ListN.{length-set}
+use Rattle.table_lines.proofs.Stores.{put_byte, put_then, put_length}
+use Rattle.table_orders.proofs.put_entry.Goals as goal
+
+pub bounds-buffer-at : goal.bounds-buffer-at
+bounds-buffer-at c = omega arith
+
+pub overflow_add-tab : goal.overflow_add-tab
+overflow_add-tab c = omega arith
+
+pub bounds-buffer-tab : goal.bounds-buffer-tab
+bounds-buffer-tab c = simp length-set (omega arith)
+
+pub overflow_add-tab-2 : goal.overflow_add-tab-2
+overflow_add-tab-2 c = omega arith
+
+pub put_pair-requires : goal.put_pair-requires
+put_pair-requires c = record { fits = simp length-set (omega arith) }
+
+pub shape_of-buffer : goal.shape_of-buffer
+shape_of-buffer c = put_length c.put_pair.ensures ∙ simp length-set
+
+pub returns : goal.returns
+returns c = put_then (put_byte _ _ 67) (put_then (put_byte _ _ 9) c.put_pair.ensures)
