@@ -1,4 +1,4 @@
--- Soundness, the refusals of a tick and the stamps of the reported tasks, by sets and arrays. Assumes nothing.
+-- Soundness, by sets and arrays. Assumes nothing.
 use Rattle.std.specs.Prelude.{Bool, ◌&&◌, ◌||◌, List, ℕ, eqb, leb, ltb, get_or}
 use Rattle.std.specs.Int.Bits.{bit_and}
 use Rattle.task_set.specs.Bounded.{all, implies}

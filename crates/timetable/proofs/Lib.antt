@@ -3,3 +3,5 @@
 pub mod Longest
 -- and the longest is reached
 pub mod Reached
+-- what is answered and written for a run
+pub mod Runs
