@@ -68,7 +68,7 @@ pub fn start(p: Plan, c: Constraint) -> Ticked
     let zeros = [0; plan::MOST_TASKS];
     let m = live_marks::mark_positions(&p.wcet, &zeros, &c.order, &c.chosen, len, 0, 0);
     let users = m.users;
-    walk::walk_on(p, c, users, 0, 0, 0, 0, zeros, zeros)
+    walk::walk_lent(&p, &c, users, 0, 0, 0, 0, zeros, zeros)
 }
 
 impl State {

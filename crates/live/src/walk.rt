@@ -58,3 +58,56 @@ pub fn walk_on(
         state,
     }
 }
+
+// The same, of a plan and a constraint that are lent: where their owner has looked at them, a copy less lies on the stack. To hand a
+// copy of them to the function above would lay it there again.
+pub fn walk_lent(
+    p: &Plan,
+    c: &Constraint,
+    users: [u64; MOST_TYPES],
+    running: u64,
+    instant: u32,
+    n: usize,
+    finished: u64,
+    starts: [u32; MOST_TASKS],
+    finishes: [u32; MOST_TASKS],
+) -> Ticked
+    requires { Walkable (state_from p.now c.now instant n finished starts finishes) users running }
+    ensures { result ≡ walked_on (state_from p.now c.now instant n finished starts finishes) }
+{
+    let len = c.len;
+    let begin = Walked {
+        begun: n,
+        running,
+        starts,
+    };
+    let w = walk(
+        &p.units,
+        &p.predecessors,
+        &p.releases,
+        &c.order,
+        &c.chosen,
+        &users,
+        len,
+        instant,
+        finished,
+        begin,
+    );
+    let after = w.starts;
+    let fresh = task_set::difference(w.running, running);
+    let state = State {
+        plan: *p,
+        constraint: *c,
+        instant,
+        started: w.begun,
+        finished,
+        starts: after,
+        finishes,
+    };
+    Ticked {
+        number: 0,
+        place: 0,
+        started: fresh,
+        state,
+    }
+}

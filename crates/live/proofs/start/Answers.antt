@@ -22,10 +22,10 @@ pub mark_positions-m-requires : goal.mark_positions-m-requires
 mark_positions-m-requires c =
     (positions _ _ (accepted _ _ (taken c.args.p c.args.c c.check-v.ensures c.if-v-ne0.false)), zero-le)
 
-pub walk_on-requires : goal.walk_on-requires
-walk_on-requires c =
+pub walk_lent-requires : goal.walk_lent-requires
+walk_lent-requires c =
     fresh_walkable _ _ (taken c.args.p c.args.c c.check-v.ensures c.if-v-ne0.false)
     (ap (λ (m : Marks). m.users) c.mark_positions-m.ensures)
 
 pub returns : goal.returns
-returns c = c.walk_on.ensures ∙ start_walked _ _ (taken c.args.p c.args.c c.check-v.ensures c.if-v-ne0.false)
+returns c = c.walk_lent.ensures ∙ start_walked _ _ (taken c.args.p c.args.c c.check-v.ensures c.if-v-ne0.false)
