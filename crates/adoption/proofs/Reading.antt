@@ -1,64 +1,51 @@
--- The records, as the loop over the lent list copies them, and their columns. Assumes nothing.
-use mathlib.Core.Path.{◌≡◌, refl, sym, ap, ◌∙◌}
-use mathlib.Core.List.{List}
-use Prim.Native.Nat.{ℕ, ◌+◌, ◌≤◌, ◌<◌}
+-- The first records of a list, with blank ones behind them, have the columns of the list. Assumes nothing.
+use mathlib.Core.Path.{◌≡◌, sym, ap, ap₂, ◌∙◌}
+use mathlib.Core.List.{List, ◌++◌}
+use Prim.Native.Nat.{ℕ, ◌+◌, ◌-◌, ◌<◌}
 use native.Mathlib.Omega.{arith}
 use borrow.Author.Tests.{ltb-true, ltb-false}
 use lib.Dec.{ltb}
-use lib.ListN.{length, get_or, replicate, set, get_or-eq_default}
+use lib.ListN.{length, get_or, replicate, take, drop}
+use Rattle.std.specs.Prelude.{min}
+use Rattle.std.proofs.Math.ListN.{get_or-append}
+use Rattle.std.proofs.lemmas.List.{get_or-append_right, get_or-take, get_or-drop, get_or-replicate, get_or_past, length-take-le}
 use Rattle.task_set.proofs.Truth.{by_test}
-use Rattle.task_set.proofs.Tables.{length_tabulate, tabulate_cong, get_d_tabulate, filled_to, filled_none, filled_more}
+use Rattle.task_set.proofs.Tables.{tabulate_cong}
 use Rattle.plan.specs.Rules.{most_tasks}
 use Rattle.adoption_theory.specs.declared.Record.{Record}
 use Rattle.adoption_theory.specs.Schedules.{schedule_of, no_record, column, listed}
-use Rattle.adoption.specs.Steps.{kept}
 
--- no more are read than there are, and no more than there is room for
-pub kept_le : (n : ℕ) → (kept n ≤ n) × (kept n ≤ most_tasks)
-unfolding kept
-kept_le n =
-    by_test (ltb n most_tasks) (λ e. rw e (omega arith, omega (arith, ltb-true n most_tasks e)))
-    (λ e. rw e (omega (arith, ltb-false n most_tasks e), omega arith))
+-- a record of zeros is none
+pub zeros : (r : Record) → r.task ≡ 0 → r.unit_type ≡ 0 → r.start ≡ 0 → r.finish ≡ 0 → r ≡ no_record
+zeros r a b c d = ap₂ (record_of r.start r.finish) a b ∙ ap₂ (λ (start finish : ℕ). record_of start finish 0 0) c d
+  where
+    record_of : ℕ → ℕ → ℕ → ℕ → Record
+    record_of start finish task unit_type = record { task = task; unit_type = unit_type; start = start; finish = finish }
 
--- past the ones that are read there is no record, or no room
-past_kept : (n k : ℕ) → kept n ≤ k → k < most_tasks → n ≤ k
-unfolding kept
-past_kept n k l m =
-    by_test (ltb n most_tasks) (λ e. rw e at l) (λ e. absurd (let h : most_tasks ≤ k = rw e at l in omega arith))
+module _ (records : List Record) {n : ℕ} {xs : List Record} {none : Record} (few : n ≡ min (length records) most_tasks)
+    (e : xs ≡ take n records) (blank : none ≡ no_record) where
+  abbrev read : List Record
+  read = xs ++ drop n (replicate most_tasks none)
 
--- a field of the first i records
-abbrev pub column_to : List Record → (Record → ℕ) → ℕ → List ℕ
-column_to records field = filled_to most_tasks (λ k. field (get_or records k no_record)) 0
+  long : length xs ≡ n
+  long = ap length e ∙ length-take-le n records (omega (arith, few))
 
-module _ (records : List Record) where
-  -- the first i records are copied
-  unfoldable pub read_to : ℕ → List Record
-  read_to i = filled_to most_tasks (λ k. get_or records k no_record) no_record i
+  at : (k : ℕ) → k < most_tasks → get_or read k no_record ≡ get_or records k no_record
+  at k l =
+      by_test (ltb k n)
+      (λ t. get_or-append xs _ no_record k (omega (arith, long, ltb-true k n t))
+      ∙ rw e (get_or-take n records k no_record (ltb-true k n t)))
+      (λ t. let m = ltb-false k n t in
+      get_or-append_right xs _ n k no_record long m ∙ get_or-drop n _ (k - n) no_record
+      ∙ get_or-replicate most_tasks (n + (k - n)) none no_record (omega arith) ∙ blank
+      ∙ sym (get_or_past records k no_record (omega (arith, few))))
 
-  pub read_none : replicate most_tasks no_record ≡ read_to 0
-  unfolding read_to
-  read_none = filled_none most_tasks (λ k. get_or records k no_record) no_record
+  read_column : (field : Record → ℕ) → column field read ≡ column field records
+  unfolding column
+  read_column field = tabulate_cong most_tasks _ _ (λ k l. ap field (at k l))
 
-  pub read_more : (i : ℕ) → set (read_to i) i (get_or records i no_record) ≡ read_to (i + 1)
-  unfolding read_to
-  read_more i = filled_more most_tasks (λ k. get_or records k no_record) no_record i refl
-
-  pub read_length : (i : ℕ) → length (read_to i) ≡ most_tasks
-  unfolding read_to
-  read_length i = length_tabulate most_tasks _
-
-  -- what is copied has the columns of the list
-  read_column : (field : Record → ℕ) → column field (read_to (kept (length records))) ≡ column field records
-  unfolding read_to column
-  read_column field =
-      tabulate_cong most_tasks _ _
-      (λ k l. ap field (get_d_tabulate most_tasks _ k no_record l
-      ∙ by_test (ltb k (kept (length records))) (λ e. rw e refl)
-      (λ e. rw e (sym (get_or-eq_default records no_record (past_kept (length records) k (ltb-false k (kept (length records)) e) l))))))
-
-  pub read_all : (xs : List Record) → xs ≡ read_to (kept (length records))
-      → schedule_of (length records) (column (λ r. r.task) xs) (column (λ r. r.unit_type) xs) (column (λ r. r.start) xs)
-      (column (λ r. r.finish) xs) ≡ listed records
+  pub read_all :
+      schedule_of (length records) (column (λ r. r.task) read) (column (λ r. r.unit_type) read) (column (λ r. r.start) read)
+      (column (λ r. r.finish) read) ≡ listed records
   unfolding listed
-  read_all xs e =
-      rw e (cc (read_column (λ r. r.task), read_column (λ r. r.unit_type), read_column (λ r. r.start), read_column (λ r. r.finish)))
+  read_all = cc (read_column (λ r. r.task), read_column (λ r. r.unit_type), read_column (λ r. r.start), read_column (λ r. r.finish))

@@ -1,2 +1,2 @@
--- The definitions of `adoption`: what inner functions rely on.
+-- The definitions of `adoption`: what inner functions compute.
 pub mod Steps

@@ -1,7 +1,8 @@
 -- What inner functions compute. No promise of a public function cites it. Assumes nothing.
-use Rattle.std.specs.Prelude.{cond, ℕ, ltb}
-use Rattle.plan.specs.Rules.{most_tasks}
+use Rattle.plan.specs.declared.Constraint.{Constraint}
+use Rattle.plan.specs.declared.Verdict.{Verdict}
+use Rattle.adoption_theory.specs.declared.Adoption.{Adoption}
 
--- how many of n records are read
-unfoldable pub kept : ℕ → ℕ
-kept n = cond (ltb n most_tasks) n most_tasks
+-- what is answered with a verdict and a constraint
+abbrev pub answer : Verdict → Constraint → Adoption
+answer v c = record { number = v.number; place = v.place; constraint = c }

@@ -5,14 +5,26 @@ ghost use Rattle.std.specs.Prelude.{◌≡◌, ◌≤◌};
 ghost use Rattle.plan.specs.Refusals.{verdict};
 ghost use Rattle.runs.specs.Running.{bound};
 ghost use Rattle.adoption_theory.specs.Schedules.{adopted, greatest_finish, listed as listed_of};
+ghost use Rattle.adoption.specs.Steps.{answer};
 
 use adoption_judge::judge;
 use adoption_order::in_order;
 use adoption_theory::{Adoption, Record, Schedule};
 use listing::listed;
-use plan::Plan;
+use plan::{Constraint, Plan, Verdict};
 
 mod listing;
+
+// What is answered with a verdict and a constraint.
+fn answer(v: Verdict, constraint: Constraint) -> Adoption
+    ensures { result ≡ answer v constraint }
+{
+    Adoption {
+        number: v.number,
+        place: v.place,
+        constraint,
+    }
+}
 
 // The constraint of a schedule by columns. It passes the check, and its bound is at most the greatest finish.
 pub fn adopt_schedule(p: Plan, s: Schedule) -> Adoption
@@ -20,20 +32,9 @@ pub fn adopt_schedule(p: Plan, s: Schedule) -> Adoption
     ensures passes { result.number ≡ 0 → (verdict p result.constraint).number ≡ 0 }
     ensures in_time { result.number ≡ 0 → bound p result.constraint ≤ greatest_finish s }
 {
-    let v = judge(p, s);
-    if v.number != 0 {
-        let constraint = plan::no_constraint();
-        return Adoption {
-            number: v.number,
-            place: v.place,
-            constraint,
-        };
-    }
-    let constraint = in_order(s.len, &s.tasks, &s.types, &s.starts);
-    Adoption {
-        number: v.number,
-        place: v.place,
-        constraint,
+    match judge(&p, &s) {
+        Ok(()) => answer(Verdict::none(), in_order(&s)),
+        Err(refusal) => answer(refusal, plan::no_constraint()),
     }
 }
 

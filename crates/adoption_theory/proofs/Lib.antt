@@ -5,5 +5,5 @@ pub mod Taken
 pub mod Placed
 -- the promises of an accepted schedule
 pub mod Promises
--- tests in any form
-pub mod Forms
+-- a test that a count adds
+pub mod Counted

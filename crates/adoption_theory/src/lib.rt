@@ -1,14 +1,12 @@
 // Schedules that were worked out elsewhere (document 02, 5): what they are, when one is taken, and what its constraint is.
-// Definitions in specs/, laws in proofs/, and one function.
+// Definitions in specs/, laws in proofs/, no function.
 #![tactic(auto)]
-
-ghost use Rattle.std.specs.Prelude.{◌≡◌};
 
 use plan::{Constraint, MOST_TASKS};
 
 // A task, the type of its unit, and when it starts and finishes.
 #[repr(C)]
-#[derive(Clone, Copy)]
+#[derive(Clone, Copy, Debug, Default, PartialEq, Eq)]
 pub struct Record {
     pub task: u32,
     pub unit_type: u32,
@@ -16,9 +14,9 @@ pub struct Record {
     pub finish: u32,
 }
 
-// A list of records by columns: how many there are, and what each of the first 64 says.
+// A list of records by columns: how many there are, and what each of the first 64 says. The plain arrays are a form of the paper.
 #[repr(C)]
-#[derive(Clone, Copy)]
+#[derive(Clone, Copy, Debug, PartialEq, Eq)]
 pub struct Schedule {
     pub len: usize,
     pub tasks: [u32; MOST_TASKS],
@@ -27,18 +25,11 @@ pub struct Schedule {
     pub finishes: [u32; MOST_TASKS],
 }
 
-// The number and the place of a refusal, or 0 and 0; the constraint of an accepted list, zeros where refused.
+// What C is handed: the number and the place of a refusal, or 0 and 0; the constraint of an accepted list, zeros where refused.
 #[repr(C)]
 #[derive(Drop)]
 pub struct Adoption {
     pub number: u32,
     pub place: usize,
     pub constraint: Constraint,
-}
-
-// The same number, as an index. A parameter is known to fit its type, an element behind a reference is not.
-pub fn wide(n: u32) -> usize
-    ensures { result ≡ n }
-{
-    n as usize
 }

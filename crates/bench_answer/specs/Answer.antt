@@ -6,7 +6,7 @@ use Rattle.plan_text.specs.declared.Answer.{Answer}
 use Rattle.plan_text.specs.Text.{read_text}
 use Rattle.simulation.specs.Simulated.{worst_case}
 use Rattle.proposal_theory.specs.Proposals.{proposed}
-use Rattle.timetable.specs.Table.{text_of}
+use Rattle.table_run_lines.specs.RunText.{text_of}
 use Rattle.table_lines.specs.Refusal.{refusal_line}
 use Rattle.table_slacks.specs.SlackTable.{slack_text_of}
 use Rattle.table_orders.specs.OrderTable.{order_text_of}

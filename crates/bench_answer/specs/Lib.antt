@@ -1,2 +1,3 @@
--- The definitions that the contract of `bench_answer` cites.
+-- The definitions that the contracts of `bench_answer` cite; those of its inner function.
 pub mod Answer
+pub mod Steps

@@ -31,130 +31,91 @@
 // no count answers bad, and no text is read. Input is read in pieces of 65,536 bytes: an answer may wait for later commands.
 #![tactic(auto)]
 
+use driver_answers::commands;
 use driver_answers::commands::Kept;
 use driver_answers::output::Answer;
-use driver_answers::{commands, output};
-use driver_input::input::Window;
-use driver_input::{fields, input};
+use driver_input::fields;
+use driver_input::input::{Line, Window};
 use std::io;
 use std::io::{BufWriter, Read, Write};
 
-// After a line: what is unused of the input, and what is kept.
-#[derive(Clone, Copy)]
-struct Standing {
+// What a session reads and writes, and what it keeps between commands.
+#[derive(Drop)]
+struct Session<R, W> {
+    reader: R,
+    writer: W,
+    out: Answer,
     window: Window,
     kept: Kept,
 }
 
-// The text of n bytes. A window that is full and holds less than n has more than a text may have. The answer goes out before
-// the rest of the text is waited for.
-fn text<R: Read, W: Write>(
-    reader: &mut R,
-    writer: &mut W,
-    out: &mut Answer,
-    bytes: &mut [u8; input::WIDTH],
-    w: Window,
-    n: u64,
-) -> io::Result<Standing> {
-    let full = input::filled(reader, bytes, w)?;
-    let start = full.from;
-    let end = input::front(full, n);
-    let kept = text_between(out, bytes, start, end);
-    output::write(writer, out)?;
-    writer.flush()?;
-    let window = input::skipped(reader, bytes, full, n)?;
-    Ok(Standing { window, kept })
+// The count that a first line is.
+fn count_of(line: Line<'_>) -> Option<u64> {
+    let Line::Whole(bytes) = line else {
+        return None;
+    };
+    match fields::of(bytes)?.as_slice() {
+        [n] => Some(*n),
+        _ => None,
+    }
 }
 
-fn text_between(out: &mut Answer, bytes: &[u8], start: usize, end: usize) -> Kept {
-    if end <= bytes.len() {
-        if start <= end {
-            return commands::text(out, &bytes[start..end]);
+impl<R: Read, W: Write> Session<R, W> {
+    // The text of n bytes. A window that is full and holds less than n has more than a text may have. The answer goes out
+    // before the rest of the text is waited for.
+    fn text(&mut self, n: u64) -> io::Result<()> {
+        self.window.fill(&mut self.reader)?;
+        self.kept.text(&mut self.out, self.window.front(n));
+        self.out.write_to(&mut self.writer)?;
+        self.writer.flush()?;
+        self.window.skip(&mut self.reader, n)
+    }
+
+    fn first_line(&mut self) -> io::Result<()> {
+        self.window.make_ready(&mut self.reader)?;
+        match count_of(self.window.next_line()) {
+            Some(n) => self.text(n),
+            None => {
+                commands::bad(&mut self.out);
+                Ok(())
+            }
         }
     }
-    commands::nothing()
-}
 
-fn is_count(bytes: &[u8], start: usize, end: usize, values: &mut [u64; fields::MOST]) -> bool {
-    if end <= bytes.len() {
-        if start <= end {
-            let f = fields::scanned(&bytes[start..end], 0, 1, values);
-            return f.ok & (f.count == 1);
+    // A line and its answer. Of a line that is too long the first piece alone has an answer.
+    fn turn(&mut self) {
+        match self.window.next_line() {
+            Line::Whole(bytes) => self.kept.line(&mut self.out, bytes),
+            Line::TooLong => commands::bad(&mut self.out),
+            Line::Rest => {}
         }
     }
-    false
-}
 
-fn first_line<R: Read, W: Write>(
-    reader: &mut R,
-    writer: &mut W,
-    out: &mut Answer,
-    bytes: &mut [u8; input::WIDTH],
-) -> io::Result<Standing> {
-    let w = input::ready(reader, bytes, input::new())?;
-    let line = input::next_line(bytes, w);
-    let mut values = [0u64; fields::MOST];
-    let ok = is_count(bytes, line.start, line.end, &mut values);
-    let window = line.rest;
-    if ok & line.fits {
-        return text(reader, writer, out, bytes, window, values[0]);
-    }
-    commands::bad(out);
-    let kept = commands::nothing();
-    Ok(Standing { window, kept })
-}
-
-fn command(out: &mut Answer, bytes: &[u8], start: usize, end: usize, kept: Kept) -> Kept {
-    if end <= bytes.len() {
-        if start <= end {
-            return commands::line(out, kept, &bytes[start..end]);
+    // Answers go out before input is waited for. No more lines than a u64 counts.
+    fn run(&mut self) -> io::Result<()> {
+        self.first_line()?;
+        for _ in 0..u64::MAX {
+            self.out.write_to(&mut self.writer)?;
+            if !self.window.is_ready() {
+                self.writer.flush()?;
+            }
+            self.window.make_ready(&mut self.reader)?;
+            if self.window.is_empty() {
+                break;
+            }
+            self.turn();
         }
+        self.writer.flush()
     }
-    kept
-}
-
-// A line and its answer. Of a line that is too long the first piece alone has an answer.
-fn turn(out: &mut Answer, bytes: &[u8; input::WIDTH], w: Window, kept: Kept) -> Standing {
-    let line = input::next_line(bytes, w);
-    let window = line.rest;
-    if line.fits {
-        let next = command(out, bytes, line.start, line.end, kept);
-        return Standing { window, kept: next };
-    }
-    if !w.within {
-        commands::bad(out);
-    }
-    Standing { window, kept }
-}
-
-// Answers go out before input is waited for. No more lines than a u64 counts.
-fn session<R: Read, W: Write>(
-    reader: &mut R,
-    writer: &mut W,
-    out: &mut Answer,
-    bytes: &mut [u8; input::WIDTH],
-    begun: Standing,
-) -> io::Result<()> {
-    let mut t = begun;
-    for _ in 0..u64::MAX {
-        output::write(writer, out)?;
-        if !input::is_ready(t.window) {
-            writer.flush()?;
-        }
-        let w = input::ready(reader, bytes, t.window)?;
-        if input::is_empty(w) {
-            break;
-        }
-        t = turn(out, bytes, w, t.kept);
-    }
-    writer.flush()
 }
 
 fn main(rt: HostRuntime) -> io::Result<()> {
-    let mut reader = rt.stdin();
-    let mut writer = BufWriter::new(rt.alloc(), rt.stdout())?;
-    let mut out = output::nothing();
-    let mut bytes = [0; input::WIDTH];
-    let begun = first_line(&mut reader, &mut writer, &mut out, &mut bytes)?;
-    session(&mut reader, &mut writer, &mut out, &mut bytes, begun)
+    let mut session = Session {
+        reader: rt.stdin(),
+        writer: BufWriter::new(rt.alloc(), rt.stdout())?,
+        out: Answer::new(),
+        window: Window::new(),
+        kept: Kept::nothing(),
+    };
+    session.run()
 }

@@ -1,8 +1,6 @@
 // The records of a schedule, put one by one, and what becomes of them.
-use crate::output;
 use crate::output::Answer;
 use adoption_theory::Schedule;
-use driver_input::fields;
 use plan::{Constraint, MOST_TASKS};
 
 // So many are counted. The first 64 are kept: a longer list is refused for its count.
@@ -18,34 +16,32 @@ pub fn none() -> Schedule {
     }
 }
 
-// Whether there is room for one more record, of four numbers of 32 bits.
-pub fn takes(s: Schedule, values: &[u64; fields::MOST]) -> bool {
-    let named = fields::fits(values[0]) & fields::fits(values[1]);
-    let timed = fields::fits(values[2]) & fields::fits(values[3]);
-    (s.len < MOST_RECORDS) & (named & timed)
-}
-
-// One more record: task, type, start and finish.
-pub fn with(mut s: Schedule, values: &[u64; fields::MOST]) -> Schedule {
+// One more record: task, type, start and finish. None, and the schedule as it was, where there is no room for it, or where a
+// number hasn't 32 bits.
+pub fn put(s: &mut Schedule, record: [u64; 4]) -> Option<()> {
+    let [task, unit_type, start, finish] = record.map(|x| u32::try_from(x).ok());
+    let (task, unit_type, start, finish) = (task?, unit_type?, start?, finish?);
     let i = s.len;
+    if MOST_RECORDS <= i {
+        return None;
+    }
     if i < MOST_TASKS {
-        s.tasks[i] = fields::narrow(values[0]);
-        s.types[i] = fields::narrow(values[1]);
-        s.starts[i] = fields::narrow(values[2]);
-        s.finishes[i] = fields::narrow(values[3]);
+        s.tasks[i] = task;
+        s.types[i] = unit_type;
+        s.starts[i] = start;
+        s.finishes[i] = finish;
     }
-    if i < MOST_RECORDS {
-        s.len = i + 1;
-    }
-    s
+    s.len = i + 1;
+    Some(())
 }
 
 // Number and place, and the constraint: its length and each entry.
-pub fn write_order(out: &mut Answer, name: &[u8], number: u32, place: usize, c: Constraint) {
-    let order = c.order;
-    let chosen = c.chosen;
-    let named = output::put_verdict(&mut out.bytes, name, number, place);
-    let counted = output::put_number(&mut out.bytes, named, c.len as u64);
-    let end = output::put_entries(&mut out.bytes, counted, &order, &chosen);
-    output::write_line(out, end);
+pub fn order_line(out: &mut Answer, name: &[u8], number: u32, place: usize, c: &Constraint) {
+    out.verdict(name, number, place);
+    out.number(c.len);
+    for (&task, &unit_type) in c.order.iter().zip(&c.chosen) {
+        out.number(task);
+        out.number(unit_type);
+    }
+    out.end_line();
 }

@@ -3,141 +3,75 @@ pub const MOST: usize = 80;
 
 const MOST_DIGITS: usize = 20;
 
-const GREATEST: u64 = 18446744073709551615;
-
-// The least value that 32 bits don't hold.
-const TOO_WIDE: u64 = 4294967296;
-
-// How many fields have begun, how many digits the last one has, and whether all bytes so far were as they should be.
-#[derive(Drop)]
-pub struct Scan {
-    pub count: usize,
-    pub digits: usize,
-    pub ok: bool,
+// The values of a line's fields: the first `count` of them. An array has room for every line, so no memory can run out here.
+#[derive(Clone, Copy)]
+pub struct Fields {
+    values: [u64; MOST],
+    count: usize,
 }
 
-fn refused() -> Scan {
-    Scan {
-        count: 0,
-        digits: 0,
-        ok: false,
-    }
-}
-
-// A field after a tab: the one before it must have a digit.
-fn next_field(s: Scan) -> Scan {
-    if MOST <= s.count {
-        return refused();
-    }
-    if 0 < s.count {
-        if s.digits == 0 {
-            return refused();
+impl Fields {
+    fn none() -> Fields {
+        Fields {
+            values: [0; MOST],
+            count: 0,
         }
     }
-    Scan {
-        count: s.count + 1,
-        digits: 0,
-        ok: true,
+
+    pub fn as_slice(&self) -> &[u64] {
+        self.values.get(..self.count).unwrap_or(&[])
+    }
+
+    // One more value, where there is room for it.
+    fn push(&mut self, value: u64) -> Option<()> {
+        *self.values.get_mut(self.count)? = value;
+        self.count = self.count.saturating_add(1);
+        Some(())
     }
 }
 
-fn digit(s: Scan, d: u64, values: &mut [u64; MOST]) -> Scan {
-    let count = s.count;
-    let digits = s.digits;
-    if MOST_DIGITS <= digits {
-        return refused();
+// The value that a digit makes of the one that the digits before it have. A field is bytes and no text, so it isn't parsed as one.
+fn with_digit(value: u64, b: u8) -> Option<u64> {
+    if !b.is_ascii_digit() {
+        return None;
     }
-    if count == 0 {
-        return refused();
+    value.checked_mul(10)?.checked_add(u64::from(b - b'0'))
+}
+
+// The value of a field of 1 to 20 digits.
+fn value_of(field: &[u8]) -> Option<u64> {
+    if field.is_empty() | (MOST_DIGITS < field.len()) {
+        return None;
     }
-    let k = count - 1;
-    if MOST <= k {
-        return refused();
+    let mut value = 0;
+    for &b in field {
+        value = with_digit(value, b)?;
     }
-    let v = values[k];
-    if GREATEST / 10 < v {
-        return refused();
+    Some(value)
+}
+
+// Fields with tabs between them.
+pub fn of(text: &[u8]) -> Option<Fields> {
+    let mut fields = Fields::none();
+    for field in text.split(|&b| b == b'\t') {
+        fields.push(value_of(field)?)?;
     }
-    if GREATEST - v * 10 < d {
-        return refused();
-    }
-    values[k] = v * 10 + d;
-    Scan {
-        count,
-        digits: digits + 1,
-        ok: true,
+    Some(fields)
+}
+
+// No field, or fields with a tab before each.
+pub fn after_tabs(text: &[u8]) -> Option<Fields> {
+    match text {
+        [] => Some(Fields::none()),
+        [b'\t', fields @ ..] => of(fields),
+        _ => None,
     }
 }
 
-fn wide(b: u8) -> u64 {
-    b as u64
-}
-
-fn byte(s: Scan, b: u8, values: &mut [u64; MOST]) -> Scan {
-    if !s.ok {
-        return s;
+// The values as times, if each has 32 bits.
+pub fn narrowed<'a>(values: &[u64], times: &'a mut [u32; MOST]) -> Option<&'a [u32]> {
+    for (time, &value) in times.iter_mut().zip(values) {
+        *time = u32::try_from(value).ok()?;
     }
-    if b == b'\t' {
-        return next_field(s);
-    }
-    if b < b'0' {
-        return refused();
-    }
-    if b'9' < b {
-        return refused();
-    }
-    digit(s, wide(b - b'0'), values)
-}
-
-fn ended(s: Scan) -> Scan {
-    if 0 < s.count {
-        if s.digits == 0 {
-            return refused();
-        }
-    }
-    s
-}
-
-// The fields of a line from a position on, into values that are zeros; `begun` is 1 where the first field has no tab
-// before it, and else 0.
-pub fn scanned(line: &[u8], from: usize, begun: usize, values: &mut [u64; MOST]) -> Scan {
-    let mut s = Scan {
-        count: begun,
-        digits: 0,
-        ok: true,
-    };
-    let mut i = from;
-    while i < line.len() {
-        s = byte(s, line[i], values);
-        i += 1;
-    }
-    ended(s)
-}
-
-// The first n values, and whether each fits.
-pub fn narrowed(values: &[u64; MOST], times: &mut [u32; MOST], n: usize) -> bool {
-    let mut ok = true;
-    let mut i = 0;
-    while i < n {
-        if MOST <= i {
-            return false;
-        }
-        let v = values[i];
-        times[i] = narrow(v);
-        ok = ok & fits(v);
-        i += 1;
-    }
-    ok
-}
-
-pub fn fits(v: u64) -> bool {
-    v < TOO_WIDE
-}
-
-// A value that fits; 0 for any other.
-pub fn narrow(v: u64) -> u32 {
-    if v < TOO_WIDE {
-        return v as u32;
-    }
-    0
+    times.get(..values.len())
 }

@@ -1,61 +1,37 @@
 // The input, through a window of bytes that is filled again and again.
-ghost use Rattle.std.specs.Prelude.{◌≤◌, length, IfOk};
+ghost use Rattle.std.specs.Prelude.{◌≡◌, ◌-◌, ◌+◌, ◌<◌, ◌≤◌, ◌==◌, length, min, IfOk, IfSome};
 
 use std::io;
 use std::io::Read;
 
-pub const WIDTH: usize = 65536;
+const WIDTH: usize = 65536;
 
 // A line is shorter than this.
 const LONGEST: usize = 1024;
 
 // The bytes from `from` up to `to` are read and not yet used. A window that isn't full was filled last at the end of the
 // input. `within` says that the bytes go on with a line that was too long.
-#[derive(Clone, Copy)]
-pub struct Window {
-    pub from: usize,
-    pub to: usize,
-    pub within: bool,
-}
-
-// The bytes from start up to end are a line; or, where `fits` is false, a piece of one that is too long.
 #[derive(Drop)]
-pub struct Line {
-    pub start: usize,
-    pub end: usize,
-    pub fits: bool,
-    pub rest: Window,
+pub struct Window {
+    bytes: [u8; WIDTH],
+    from: usize,
+    to: usize,
+    within: bool,
+    ghost in_order: { from ≤ to },
+    ghost inside: { to ≤ 65536 },
 }
 
-// Full, with every byte used: so the first use fills it.
-pub fn new() -> Window {
-    Window {
-        from: WIDTH,
-        to: WIDTH,
-        within: false,
-    }
+// What stands at the front of the input.
+#[derive(Clone, Copy)]
+pub enum Line<'a> {
+    Whole(&'a [u8]),
+    // The first piece of a line that is too long.
+    TooLong,
+    // A further piece.
+    Rest,
 }
 
-pub fn is_empty(w: Window) -> bool {
-    w.to <= w.from
-}
-
-// Moves n bytes to the front.
-fn shift(bytes: &mut [u8; WIDTH], from: usize, n: usize) {
-    let mut i = 0;
-    while i < n {
-        if WIDTH <= i {
-            return;
-        }
-        if WIDTH - i <= from {
-            return;
-        }
-        bytes[i] = bytes[from + i];
-        i += 1;
-    }
-}
-
-// Reads until the bytes are full or the input ends, and answers how many it read.
+// Reads until the bytes are full or the input ends, and answers how many it read: std's say little of that after an error.
 fn read_full<R: Read>(reader: &mut R, bytes: &mut [u8]) -> io::Result<usize>
     ensures { IfOk result (λ n. n ≤ length bytes.new) }
 {
@@ -70,144 +46,98 @@ fn read_full<R: Read>(reader: &mut R, bytes: &mut [u8]) -> io::Result<usize>
     Ok(done)
 }
 
-// Reads to the end of the window, or of the input.
-fn read_behind<R: Read>(reader: &mut R, bytes: &mut [u8], n: usize) -> io::Result<usize> {
-    if n <= bytes.len() {
-        return read_full(reader, &mut bytes[n..]);
-    }
-    Ok(0)
-}
-
-// The unused bytes at the front, and as many more as the window holds.
-pub fn filled<R: Read>(reader: &mut R, bytes: &mut [u8; WIDTH], w: Window) -> io::Result<Window> {
-    let from = w.from;
-    let to = w.to;
-    if WIDTH < to {
-        return Ok(w);
-    }
-    if to < from {
-        return Ok(w);
-    }
-    let have = to - from;
-    shift(bytes, from, have);
-    let more = read_behind(reader, bytes, have)?;
-    if WIDTH - have < more {
-        return Ok(w);
-    }
-    Ok(Window {
-        from: 0,
-        to: have + more,
-        within: w.within,
-    })
-}
-
-// Whether a window holds a whole line, if its line isn't too long.
-pub fn is_ready(w: Window) -> bool {
-    (w.to < WIDTH) | (w.from < WIDTH - LONGEST)
-}
-
-// The window, filled if it wasn't ready.
-pub fn ready<R: Read>(reader: &mut R, bytes: &mut [u8; WIDTH], w: Window) -> io::Result<Window> {
-    if is_ready(w) {
-        return Ok(w);
-    }
-    filled(reader, bytes, w)
-}
-
-// The first newline of the bytes from `from` up to `to`, or `to`.
-fn newline(bytes: &[u8; WIDTH], from: usize, to: usize) -> usize {
-    let mut i = from;
-    while i < to {
-        if WIDTH <= i {
-            return to;
+impl Window {
+    // Full, with every byte used: so the first use fills it.
+    pub fn new() -> Window {
+        Window {
+            bytes: [0; WIDTH],
+            from: WIDTH,
+            to: WIDTH,
+            within: false,
         }
-        if bytes[i] == b'\n' {
-            return i;
-        }
-        i += 1;
     }
-    to
-}
 
-// The line, or the piece of a line, at the front of a window that is ready. The last line may lack its newline.
-pub fn next_line(bytes: &[u8; WIDTH], w: Window) -> Line {
-    let from = w.from;
-    let to = w.to;
-    let e = newline(bytes, from, to);
-    if e < to {
-        return Line {
-            start: from,
-            end: e,
-            fits: !w.within & is_short(from, e),
-            rest: Window {
-                from: e + 1,
-                to,
-                within: false,
-            },
+    fn unused(&self) -> &[u8]
+        ensures { length result.now ≡ self.now.to - self.now.from }
+    {
+        &self.bytes[self.from..self.to]
+    }
+
+    pub fn is_empty(&self) -> bool
+        ensures { result ≡ (self.now.to - self.now.from == 0) }
+    {
+        self.unused().is_empty()
+    }
+
+    // Moves the unused bytes to the front, and reads as many more as the window holds.
+    pub fn fill<R: Read>(&mut self, reader: &mut R) -> io::Result<()> {
+        self.bytes.copy_within(self.from..self.to, 0);
+        let have = self.to - self.from;
+        self.from = 0;
+        self.to = have;
+        self.to += read_full(reader, &mut self.bytes[have..])?;
+        Ok(())
+    }
+
+    // Whether a window holds a whole line, if its line isn't too long.
+    pub fn is_ready(&self) -> bool {
+        (self.to < WIDTH) | (self.from < WIDTH - LONGEST)
+    }
+
+    // Fills the window if it isn't ready.
+    pub fn make_ready<R: Read>(&mut self, reader: &mut R) -> io::Result<()> {
+        if self.is_ready() {
+            return Ok(());
+        }
+        self.fill(reader)
+    }
+
+    // Where the first line of the unused bytes ends: at its newline.
+    fn newline(&self) -> Option<usize>
+        ensures { IfSome result (λ n. self.now.from + n < self.now.to) }
+    {
+        self.unused().iter().position(|&b| b == b'\n')
+    }
+
+    // The line, or the piece of a line, at the front of a window that is ready. The last line may lack its newline.
+    pub fn next_line(&mut self) -> Line<'_> {
+        let newline = self.newline();
+        let start = self.from;
+        let (end, next) = match newline {
+            Some(n) => (start + n, start + n + 1),
+            None => (self.to, self.to),
         };
-    }
-    Line {
-        start: from,
-        end: to,
-        fits: !w.within & is_short(from, to),
-        rest: Window {
-            from: to,
-            to,
-            within: true,
-        },
-    }
-}
-
-fn is_short(start: usize, end: usize) -> bool {
-    if start <= end {
-        return end - start < LONGEST;
-    }
-    false
-}
-
-// The window after n bytes more of the input, or at its end.
-pub fn skipped<R: Read>(
-    reader: &mut R,
-    bytes: &mut [u8; WIDTH],
-    w: Window,
-    n: u64,
-) -> io::Result<Window> {
-    let mut left = n;
-    let mut at = w;
-    while 0 < left {
-        let from = at.from;
-        let to = at.to;
-        if to <= from {
-            return Ok(at);
-        }
-        let have = (to - from) as u64;
-        if left <= have {
-            return Ok(moved(at, left));
-        }
-        left -= have;
-        at = filled(reader, bytes, moved(at, have))?;
-    }
-    Ok(at)
-}
-
-// Past n unused bytes, or past all of them.
-fn moved(w: Window, n: u64) -> Window {
-    let from = w.from;
-    let to = w.to;
-    let mut at = to;
-    if from <= to {
-        if n <= (to - from) as u64 {
-            at = from + n as usize;
+        let within = self.within;
+        self.within = newline.is_none();
+        self.from = next;
+        if within {
+            Line::Rest
+        } else if end - start < LONGEST {
+            Line::Whole(&self.bytes[start..end])
+        } else {
+            Line::TooLong
         }
     }
-    Window {
-        from: at,
-        to,
-        within: w.within,
-    }
-}
 
-// Where the first n unused bytes end.
-pub fn front(w: Window, n: u64) -> usize {
-    moved(w, n).from
+    // The first n unused bytes, or all of them.
+    pub fn front(&self, n: u64) -> &[u8]
+        ensures { length result.now ≡ min n (self.now.to - self.now.from) }
+    {
+        let unused = self.unused();
+        &unused[..n.min(unused.len() as u64) as usize]
+    }
+
+    // Past n bytes more of the input, or to its end.
+    pub fn skip<R: Read>(&mut self, reader: &mut R, n: u64) -> io::Result<()> {
+        let mut left = n;
+        while 0 < left && !self.is_empty() {
+            let passed = self.front(left).len();
+            self.from += passed;
+            left -= passed as u64;
+            if 0 < left {
+                self.fill(reader)?;
+            }
+        }
+        Ok(())
+    }
 }

@@ -24,8 +24,8 @@ use Rattle.live_marks.proofs.Standing.{has_tasks}
 use Rattle.live.specs.declared.State.{State}
 use Rattle.live.specs.States.{is_started, notes_of}
 use Rattle.live.specs.Soundness.{start_in}
-use Rattle.live.specs.Steps.{running_of, users_of}
-use Rattle.live.proofs.Standing.{marks_in, task_at, type_at}
+use Rattle.live.specs.Steps.{running_of, users_of, marks_in}
+use Rattle.live.proofs.Standing.{task_at, type_at}
 use Rattle.live.proofs.StateBack.{started_notes, running_notes}
 
 module _ (s : State) (a : Accepted s.plan s.constraint) (few : s.started ≤ s.plan.tasks) where

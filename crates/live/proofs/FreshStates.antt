@@ -1,9 +1,10 @@
 -- The state that a run begins with. Assumes nothing.
-use mathlib.Core.Path.{◌≡◌, refl, ap}
-use mathlib.Core.Bool.{true}
+use mathlib.Core.Path.{◌≡◌, refl, ap, ◌∙◌}
+use mathlib.Core.Bool.{true, false}
 use mathlib.Core.List.{List}
 use Prim.Native.Nat.{ℕ, zero-le}
-use borrow.Author.Tests.{eq-eqb, ne_eqb}
+use borrow.Author.Tests.{eq-eqb}
+use lib.Dec.{eqb}
 use lib.ListN.{get_or, replicate, length-replicate, get_or-replicate}
 use lib.Pow.{pow_pos}
 use Rattle.task_set.specs.Bounded.{any}
@@ -44,20 +45,27 @@ module _ (p : Plan) (c : Constraint) where
         finishes_long = length-replicate {A = ℕ} most_tasks 0;
       }
 
-  pub fresh_walkable : (verdict p c).number ≡ 0 → {users : List ℕ} → users ≡ users_of fresh → Walkable fresh users 0
+  -- the all-zero state z, once it has the plan and the constraint
+  abbrev begun : State → State
+  begun z = state_from p c z.instant z.started z.finished z.starts z.finishes
+
+  pub fresh_walkable : (verdict p c).number ≡ 0 → {z : State} → z ≡ no_state → {users : List ℕ} → users ≡ users_of fresh
+      → Walkable (begun z) users 0
   unfolding without
-  fresh_walkable ok e = record { tidy = fresh_tidy ok; users_are = e; running_are = rw (tasks_none c.order (λ j. true)) refl }
+  fresh_walkable ok none e =
+      rw none record { tidy = fresh_tidy ok; users_are = e; running_are = rw (tasks_none c.order (λ j. true)) refl }
 
   pub fresh_notes : notes_of fresh ≡ blank
   unfolding is_started any
   fresh_notes = notes_ext refl (λ t. refl) (λ t. rw (has_none t) refl)
 
   -- start, from the check's answer
-  pub start_refused : {v : Verdict} → v ≡ verdict p c → (v.number ≡ 0 → ⊥) → stayed v no_state ≡ started p c
+  pub start_refused : {v : Verdict} → (v ≡ verdict p c) × (eqb (verdict p c).number 0 ≡ false) → stayed v no_state ≡ started p c
   unfolding started
-  start_refused e f = rw (← e, ne_eqb _ 0 f) refl
+  start_refused e = rw (e.0, e.1) refl
 
-  pub start_walked : (verdict p c).number ≡ 0 → walked_on fresh ≡ started p c
+  pub start_walked : (verdict p c).number ≡ 0 → {z : State} → z ≡ no_state → walked_on (begun z) ≡ started p c
   unfolding started opening
-  start_walked ok =
-      rw (eq-eqb (verdict p c).number 0 ok) (ap (λ (n : Notes). moved p c n (dispatch p c (entries c) n)) fresh_notes)
+  start_walked ok none =
+      ap (λ (z : State). walked_on (begun z)) none
+      ∙ rw (eq-eqb (verdict p c).number 0 ok) (ap (λ (n : Notes). moved p c n (dispatch p c (entries c) n)) fresh_notes)

@@ -1,7 +1,6 @@
 -- Whether a state is sound, from the answers of the functions that test its parts. Assumes nothing.
-use mathlib.Core.Path.{◌≡◌, sym, ap, ◌∙◌}
+use mathlib.Core.Path.{◌≡◌, refl, sym, ap, ◌∙◌}
 use mathlib.Core.Bool.{Bool, true, false, ◌&&◌, ◌||◌, not, and-true, and-false, and_assoc}
-use mathlib.Core.List.{List}
 use mathlib.Core.Logic.{⊎_elim}
 use Prim.Native.Nat.{ℕ, ◌≤◌, ◌<◌}
 use native.Mathlib.Omega.{arith}
@@ -9,6 +8,8 @@ use borrow.Author.Tests.{ltb-true, ltb-false, eqb-true, eq-eqb, le-leb, lt-leb, 
 use lib.Bits.{bit_and}
 use lib.Dec.{eqb, leb, ltb}
 use lib.ListN.{get_or}
+use Rattle.std.proofs.Common.{Result}
+use Rattle.std.specs.Result.{is_err}
 use Rattle.task_set.specs.Bounded.{all}
 use Rattle.task_set.specs.Sets.{width, has}
 use Rattle.task_set.proofs.Truth.{by_test, not_leb, or_cases, or_left_off, or_right_off}
@@ -16,7 +17,7 @@ use Rattle.task_set.proofs.Bounded.{all_cong, all_both}
 use Rattle.task_set.proofs.Members.{apart_mask}
 use Rattle.plan.specs.declared.Verdict.{Verdict}
 use Rattle.plan.specs.Rules.{most_tasks, most_types}
-use Rattle.plan.specs.Refusals.{verdict}
+use Rattle.plan.specs.Refusals.{as_result, verdict}
 use Rattle.plan.specs.Steps.{Positions}
 use Rattle.plan.proofs.Accepted.{Accepted, accepted, positions}
 use Rattle.runs.specs.Running.{is_running}
@@ -27,8 +28,7 @@ use Rattle.live.specs.declared.State.{State}
 use Rattle.live.specs.States.{is_started, notes_of}
 use Rattle.live.specs.Soundness.{checked, started_fits, finished_started, start_came, start_released, finish_came}
 use Rattle.live.specs.Soundness.{unused_zero, time_left, units_enough, instant_low, task_sound, is_sound}
-use Rattle.live.specs.Steps.{running_of, users_of}
-use Rattle.live.proofs.Standing.{marks_in}
+use Rattle.live.specs.Steps.{running_of, users_of, marks_in}
 use Rattle.live.proofs.StateBack.{running_notes, over_notes}
 use Rattle.live.proofs.Choices.{spent_own, busy_size}
 
@@ -39,18 +39,23 @@ pub record Passed (s : State) : Type 0 where
 
 module _ (s : State) where
   -- the first two tests, as the tick asks them
-  module _ {v : Verdict} (e : v ≡ verdict s.plan s.constraint) where
-    pub unsound_first : not (eqb v.number 0) || ltb s.plan.tasks s.started ≡ true → is_sound s ≡ false
+  module _ {answer : Result (Unit {0}) Verdict} (f : answer ≡ as_result (verdict s.plan s.constraint)) {broken : Bool}
+      (g : broken ≡ is_err answer) where
+    e : broken ≡ not (eqb (verdict s.plan s.constraint).number 0)
+    unfolding as_result
+    e = g ∙ rw f (by_test (eqb (verdict s.plan s.constraint).number 0) (λ q. rw q refl) (λ q. rw q refl))
+
+    pub unsound_first : broken || ltb s.plan.tasks s.started ≡ true → is_sound s ≡ false
     unfolding is_sound checked started_fits
     unsound_first f =
-        ⊎_elim (λ q. rw (← e, not-true (eqb v.number 0) q))
+        ⊎_elim (λ q. rw (not-true (eqb (verdict s.plan s.constraint).number 0) (sym e ∙ q)))
         (λ q. rw (lt-leb s.started s.plan.tasks (ltb-true _ _ q), and-false (checked s))) (or_cases _ _ f)
 
-    pub passed_first : not (eqb v.number 0) || ltb s.plan.tasks s.started ≡ false → Passed s
+    pub passed_first : broken || ltb s.plan.tasks s.started ≡ false → Passed s
     passed_first f =
         record {
-          checked = sym (ap (λ (w : Verdict). w.number) e) ∙ eqb-true _ 0 (not-false _ (or_left_off _ _ f));
-          few = ltb-false _ _ (or_right_off (not (eqb v.number 0)) _ f);
+          checked = eqb-true _ 0 (not-false _ (sym e ∙ or_left_off _ _ f));
+          few = ltb-false _ _ (or_right_off broken _ f);
         }
 
   module _ (y : Passed s) where
@@ -109,9 +114,8 @@ module _ (s : State) where
 
     -- ---- the whole
 
-    pub sound_by_lem : {u : List ℕ} {m : Marks} {done : Bool} → u ≡ users_of s → m ≡ marks_in s
-        → done ≡ all s.plan.tasks (has s.finished)
-        → sound_by s.plan.units u s.plan.releases s.starts s.finishes m done s.finished s.instant ≡ is_sound s
+    pub sound_by_lem : {m : Marks} {done : Bool} → m ≡ marks_in s → done ≡ all s.plan.tasks (has s.finished)
+        → sound_by s.plan.units s.plan.releases s.starts s.finishes m done s.finished s.instant ≡ is_sound s
     unfolding is_sound checked started_fits instant_low sound_by
-    sound_by_lem e f g =
-        rw (e, f, g, ← tasks_by, ← units_by, over_notes s, eq-eqb _ 0 y.checked, le-leb s.started s.plan.tasks y.few)
+    sound_by_lem e f =
+        rw (e, f, ← tasks_by, ← units_by, over_notes s, eq-eqb _ 0 y.checked, le-leb s.started s.plan.tasks y.few)

@@ -18,8 +18,7 @@ use Rattle.runs.specs.Journal.{idle, overdue}
 use Rattle.live_report.specs.Steps.{unless_empty}
 use Rattle.live.specs.declared.State.{State}
 use Rattle.live.specs.States.{notes_of}
-use Rattle.live.specs.Steps.{running_of}
-use Rattle.live.proofs.Standing.{marks_in}
+use Rattle.live.specs.Steps.{running_of, marks_in}
 use Rattle.live.proofs.StateBack.{running_notes}
 use Rattle.live.proofs.Choices.{due_own}
 

@@ -5,7 +5,9 @@ use mathlib.Core.List.{List}
 use Prim.Native.Nat.{ℕ, ◌+◌, ◌^◌, ◌≤◌, ◌<◌}
 use native.Mathlib.Nat.{lt_of_le_of_lt}
 use native.Mathlib.Omega.{arith}
-use borrow.Author.Tests.{ne_eqb, eq-eqb}
+use borrow.Author.Tests.{eq-eqb, eqb-true}
+use lib.Dec.{eqb}
+use Rattle.std.proofs.Common.{Result, Ok, Err}
 use lib.Bits.{bit_and, and_le_l}
 use Rattle.task_set.specs.Bounded.{all, first, tabulate}
 use Rattle.task_set.specs.Sets.{width, has, without}
@@ -13,8 +15,9 @@ use Rattle.task_set.proofs.Truth.{by_test}
 use Rattle.task_set.proofs.Members.{without_small}
 use Rattle.plan.specs.declared.Verdict.{Verdict}
 use Rattle.plan.specs.Rules.{most_tasks}
-use Rattle.plan.specs.Refusals.{refused, no_refusal, first_refusal}
+use Rattle.plan.specs.Refusals.{refused, no_refusal, first_refusal, as_result}
 use Rattle.plan.proofs.Accepted.{Accepted, accepted}
+use Rattle.plan.proofs.Refusing.{as_ok, as_err}
 use Rattle.runs.specs.Running.{Notes, entries, dispatch, step, over}
 use Rattle.runs.specs.Journal.{idle, overdue, refusal, newly_started}
 use Rattle.runs.proofs.Sound.{report_timely}
@@ -26,9 +29,7 @@ use Rattle.live.specs.declared.State.{State}
 use Rattle.live.specs.States.{notes_of}
 use Rattle.live.specs.Soundness.{is_sound}
 use Rattle.live.specs.Ticks.{moved, stayed, tick_verdict, ticked}
-use Rattle.live.specs.declared.verdicts.Judged.{Judged}
-use Rattle.live.specs.Steps.{running_of, users_of, walked_on, Judges}
-use Rattle.live.proofs.Standing.{marks_in}
+use Rattle.live.specs.Steps.{running_of, walked_on, marks_in, judged}
 use Rattle.live.proofs.StateBack.{over_notes}
 use Rattle.live.proofs.Reports.{unless_set, idle_set, overdue_set}
 use Rattle.live.proofs.ReportedStates.{next_state, Shaped, sound_checked, sound_few, sound_tidy, reported_notes}
@@ -74,21 +75,22 @@ module _ (s : State) (report : ℕ) where
 
 -- ---- what a tick is judged to be
 
-pub judged_unsound : (s : State) (report : ℕ) → is_sound s ≡ false → {j : Judged} → (j.number ≡ 12) × (j.place ≡ 0)
-    → Judges s report j
-judged_unsound s report e f =
-    record {
-      verdict = rw (f.0, f.1) (sym (says_12 s report e));
-      started = λ q. absurd (omega (arith, f.0));
-      users = λ q. absurd (omega (arith, f.0));
-    }
+pub judged_unsound : (s : State) (report : ℕ) → is_sound s ≡ false → {v : Verdict} → v ≡ refused 12 0
+    → ◌≡◌ {A = Result Marks Verdict} (Err v) (judged s report)
+judged_unsound s report e f = rw (f, says_12 s report e) refl
 
-pub judged_sound : (s : State) (report : ℕ) → report < 2 ^ width → is_sound s ≡ true
-    → {v : Verdict} {m : Marks} {done : Bool} {u : List ℕ} → m ≡ marks_in s → done ≡ all s.plan.tasks (has s.finished)
-    → u ≡ users_of s → v ≡ verdict_by m done s.finished report
-    → Judges s report (record { number = v.number; place = v.place; started = m.started; users = u })
-judged_sound s report small sound e f g k =
-    record { verdict = k ∙ verdict_by_lem s report sound small e f; started = λ q. ap (λ (m : Marks). m.started) e; users = λ q. g }
+-- of a sound state, from what is found of the report
+module _ (s : State) (report : ℕ) (small : report < 2 ^ width) (sound : is_sound s ≡ true) {m : Marks} {done : Bool}
+    (e : m ≡ marks_in s) (f : done ≡ all s.plan.tasks (has s.finished)) {w : Result (Unit {0}) Verdict}
+    (h : w ≡ as_result (verdict_by m done s.finished report)) where
+  found : w ≡ as_result (tick_verdict s report)
+  found = h ∙ ap as_result (verdict_by_lem s report sound small e f)
+
+  pub judged_refused : {v : Verdict} → w ≡ Err v → ◌≡◌ {A = Result Marks Verdict} (Err v) (judged s report)
+  judged_refused k = let x = as_err (tick_verdict s report) (sym k ∙ found) in rw (x.1, x.0) refl
+
+  pub judged_taken : {u : Unit {0}} → w ≡ Ok u → ◌≡◌ {A = Result Marks Verdict} (Ok m) (judged s report)
+  judged_taken k = rw (eq-eqb (tick_verdict s report).number 0 (as_ok _ (sym k ∙ found)), e) refl
 
 -- ---- an accepted tick
 
@@ -112,9 +114,25 @@ module _ (s : State) (report : ℕ) (ok : (tick_verdict s report).number ≡ 0) 
       (reported_notes s (sound_tidy s h accepted_sound) report small accepted_idle)
       ∙ rw (eq-eqb (tick_verdict s report).number 0 ok) refl
 
--- ---- the tick, from the verdict
+-- ---- the tick, from what it is judged to be
 
-pub tick_stays : (s : State) (report : ℕ) {v : Verdict} → v ≡ tick_verdict s report → (v.number ≡ 0 → ⊥)
-    → stayed v s ≡ ticked s report
-unfolding ticked
-tick_stays s report e f = rw (← e, ne_eqb _ 0 f) refl
+module _ (s : State) (report : ℕ) where
+  pub tick_stays : {v : Verdict} → Err v ≡ judged s report → stayed v s ≡ ticked s report
+  unfolding ticked
+  tick_stays {v} h =
+      by_test (eqb (tick_verdict s report).number 0)
+      (λ q. let z : ◌≡◌ {A = Result Marks Verdict} (Err v) (Ok (marks_in s)) = rw q at h in cc)
+      (λ q. let z : ◌≡◌ {A = Result Marks Verdict} (Err v) (Err (tick_verdict s report)) = rw q at h in
+      let y : v ≡ tick_verdict s report = cc in rw (y, q) refl)
+
+  -- what an accepted tick goes by
+  pub record Taken (m : Marks) : Type 0 where
+    pub ok : (tick_verdict s report).number ≡ 0
+    pub marks : m ≡ marks_in s
+
+  pub tick_taken : {m : Marks} → Ok m ≡ judged s report → Taken m
+  tick_taken {m} h =
+      by_test (eqb (tick_verdict s report).number 0)
+      (λ q. let z : ◌≡◌ {A = Result Marks Verdict} (Ok m) (Ok (marks_in s)) = rw q at h in
+      record { ok = eqb-true _ 0 q; marks = cc })
+      (λ q. let z : ◌≡◌ {A = Result Marks Verdict} (Ok m) (Err (tick_verdict s report)) = rw q at h in cc)

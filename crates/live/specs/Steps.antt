@@ -1,18 +1,19 @@
 -- What inner functions of the live run compute. No promise of a public function cites it. Assumes nothing.
-use Rattle.std.specs.Prelude.{◌≡◌, true, false, List, ℕ, ◌^◌, ◌≤◌, ◌<◌, get_or, length}
+use Rattle.std.specs.Prelude.{◌≡◌, true, false, cond, List, ℕ, ◌^◌, ◌≤◌, ◌<◌, eqb, get_or, length, Result, Ok, Err}
 use Rattle.task_set.specs.Bounded.{tabulate}
 use Rattle.task_set.specs.Sets.{width, has, without}
 use Rattle.plan.specs.declared.Plan.{Plan}
 use Rattle.plan.specs.declared.Constraint.{Constraint}
+use Rattle.plan.specs.declared.Verdict.{Verdict}
 use Rattle.plan.specs.Rules.{most_types, most_tasks}
-use Rattle.plan.specs.Refusals.{refused, verdict}
+use Rattle.plan.specs.Refusals.{verdict}
 use Rattle.runs.specs.Running.{entries, dispatch}
-use Rattle.live_marks.specs.Steps.{first_tasks, type_users}
+use Rattle.live_marks.specs.declared.Marks.{Marks}
+use Rattle.live_marks.specs.Steps.{first_tasks, type_users, marks_of}
 use Rattle.live.specs.declared.State.{State}
 use Rattle.live.specs.declared.Ticked.{Ticked}
-use Rattle.live.specs.declared.verdicts.Judged.{Judged}
 use Rattle.live.specs.States.{is_started, notes_of}
-use Rattle.live.specs.Ticks.{moved, tick_verdict}
+use Rattle.live.specs.Ticks.{moved, stayed, tick_verdict}
 
 -- a state that is handed over in parts
 abbrev pub state_from : Plan → Constraint → ℕ → ℕ → ℕ → List ℕ → List ℕ → State
@@ -31,11 +32,20 @@ abbrev pub walked_on : State → Ticked
 walked_on s =
     moved s.plan s.constraint (notes_of s) (dispatch s.plan s.constraint (entries s.constraint) (notes_of s))
 
--- what a tick is judged to be: its verdict and, where it is accepted, what the walk needs
-pub record Judges (s : State) (report : ℕ) (j : Judged) : Type 0 where
-  pub verdict : refused j.number j.place ≡ tick_verdict s report
-  pub started : j.number ≡ 0 → j.started ≡ first_tasks s.constraint.order s.started
-  pub users : j.number ≡ 0 → j.users ≡ users_of s
+-- what the pass over the positions finds of a state
+abbrev pub marks_in : State → Marks
+marks_in s =
+    marks_of s.plan.wcet s.starts s.constraint.order s.constraint.chosen s.constraint.len s.started
+    s.instant
+
+-- what a tick is judged to be: a refusal, or the marks that the walk goes by
+abbrev pub judged : State → ℕ → Result Marks Verdict
+judged s report = cond (eqb (tick_verdict s report).number 0) (Ok (marks_in s)) (Err (tick_verdict s report))
+
+-- the answer with the state s: the tasks just started, or a refusal
+abbrev pub answered : Result ℕ Verdict → State → Ticked
+answered (Ok started) s = record { number = 0; place = 0; started = started; state = s }
+answered (Err v) s = stayed v s
 
 -- what the check and the tests of soundness leave for the walk to rely on
 pub record Tidy (s : State) : Type 0 where

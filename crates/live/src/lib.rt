@@ -3,12 +3,13 @@
 
 ghost use Rattle.std.specs.Prelude.{◌≡◌};
 ghost use Rattle.live.specs.States.{no_state};
+ghost use Rattle.live.specs.Steps.{answered};
 ghost use Rattle.live.specs.Ticks.{started, ticked};
 
 mod verdicts;
 mod walk;
 
-use plan::{Constraint, Plan};
+use plan::{Constraint, Plan, Verdict};
 
 // A run state: the instant, how many tasks of the order have started, the set of finished tasks, and each task's start
 // and finish instant, by task number, 0 until it has one.
@@ -24,7 +25,7 @@ pub struct State {
     pub finishes: [u32; plan::MOST_TASKS],
 }
 
-// What start and a tick answer: a refusal's number and place, or 0 and 0; the set of tasks just started; the state.
+// What start and a tick answer, as C has it: a refusal's number and place, or 0 and 0; the set of tasks just started; the state.
 #[repr(C)]
 #[derive(Drop)]
 pub struct Ticked {
@@ -54,9 +55,8 @@ pub fn no_state() -> State
 pub fn start(p: Plan, c: Constraint) -> Ticked
     ensures { result ≡ started p c }
 {
-    let v = plan_check::check(p, c);
-    if v.number != 0 {
-        let state = no_state();
+    let mut state = no_state();
+    if let Err(v) = plan_check::checked(&p, &c) {
         return Ticked {
             number: v.number,
             place: v.place,
@@ -64,38 +64,50 @@ pub fn start(p: Plan, c: Constraint) -> Ticked
             state,
         };
     }
-    let len = c.len;
-    let zeros = [0; plan::MOST_TASKS];
-    let m = live_marks::mark_positions(&p.wcet, &zeros, &c.order, &c.chosen, len, 0, 0);
-    let users = m.users;
-    walk::walk_lent(&p, &c, users, 0, 0, 0, 0, zeros, zeros)
+    state.plan = p;
+    state.constraint = c;
+    let m = live_marks::mark_positions(&state.plan, &state.constraint, &state.starts, 0, 0);
+    let started = walk::walk_on(&mut state, &m.users, 0);
+    Ticked {
+        number: 0,
+        place: 0,
+        started,
+        state,
+    }
 }
 
 impl State {
+    // One instant on, with the reported tasks finished: the tasks that then started; or a refusal, and the state is as it was.
+    fn advance(&mut self, report: u64) -> Result<u64, Verdict>
+        ensures { answered result self.new ≡ ticked self.old report }
+    {
+        let m = verdicts::judge(self, report)?;
+        self.instant += 1;
+        self.finished |= report;
+        live_report::stamp(&mut self.finishes, report, self.instant);
+        let running = task_set::difference(m.started, self.finished);
+        Ok(walk::walk_on(self, &m.users, running))
+    }
+
     // The state one instant on, with the reported tasks finished, and the tasks that then started; or a refusal, with the
     // state as it was.
-    pub fn tick(self, report: u64) -> Ticked
+    pub fn tick(mut self, report: u64) -> Ticked
         ensures { result ≡ ticked self report }
     {
-        let j = verdicts::judge(self, report);
-        if j.number != 0 {
-            return Ticked {
-                number: j.number,
-                place: j.place,
+        // Each arm makes the answer itself: a function that made it for both, and for start, would copy the state once more.
+        match self.advance(report) {
+            Ok(started) => Ticked {
+                number: 0,
+                place: 0,
+                started,
+                state: self,
+            },
+            Err(v) => Ticked {
+                number: v.number,
+                place: v.place,
                 started: 0,
                 state: self,
-            };
+            },
         }
-        let p = self.plan;
-        let c = self.constraint;
-        let starts = self.starts;
-        let before = self.finishes;
-        let n = self.started;
-        let instant = self.instant + 1;
-        let finished = self.finished | report;
-        let running = task_set::difference(j.started, finished);
-        let finishes = live_report::stamped(before, report, instant);
-        let users = j.users;
-        walk::walk_on(p, c, users, running, instant, n, finished, starts, finishes)
     }
 }

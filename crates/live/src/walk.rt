@@ -1,113 +1,25 @@
 // The walk of an instant, from a run state to the next.
-ghost use Rattle.std.specs.Prelude.{◌≡◌};
-ghost use Rattle.live.specs.Steps.{Walkable, state_from, walked_on};
+ghost use Rattle.std.specs.Prelude.{◌≡◌, Ok};
+ghost use Rattle.live.specs.Steps.{Walkable, answered, walked_on};
 
-use crate::{State, Ticked};
+use crate::State;
 use live_walk::{Walked, walk};
-use plan::{Constraint, MOST_TASKS, MOST_TYPES, Plan};
+use plan::MOST_TYPES;
 
-// The state after the walk of its instant, and the tasks that the walk started. The state is handed over in parts, with its
-// running tasks and each type's users.
-pub fn walk_on(
-    p: Plan,
-    c: Constraint,
-    users: [u64; MOST_TYPES],
-    running: u64,
-    instant: u32,
-    n: usize,
-    finished: u64,
-    starts: [u32; MOST_TASKS],
-    finishes: [u32; MOST_TASKS],
-) -> Ticked
-    requires { Walkable (state_from p c instant n finished starts finishes) users running }
-    ensures { result ≡ walked_on (state_from p c instant n finished starts finishes) }
+// The state walks its instant, with its running tasks and each type's users: the tasks that the walk started.
+pub fn walk_on(s: &mut State, users: &[u64; MOST_TYPES], running: u64) -> u64
+    requires { Walkable s.old users.now running }
+    ensures { answered (Ok result) s.new ≡ walked_on s.old }
 {
-    let len = c.len;
+    let starts = s.starts;
     let begin = Walked {
-        begun: n,
+        begun: s.started,
         running,
         starts,
     };
-    let w = walk(
-        &p.units,
-        &p.predecessors,
-        &p.releases,
-        &c.order,
-        &c.chosen,
-        &users,
-        len,
-        instant,
-        finished,
-        begin,
-    );
+    let w = walk(&s.plan, &s.constraint, users, s.instant, s.finished, begin);
     let after = w.starts;
-    let fresh = task_set::difference(w.running, running);
-    let state = State {
-        plan: p,
-        constraint: c,
-        instant,
-        started: w.begun,
-        finished,
-        starts: after,
-        finishes,
-    };
-    Ticked {
-        number: 0,
-        place: 0,
-        started: fresh,
-        state,
-    }
-}
-
-// The same, of a plan and a constraint that are lent: where their owner has looked at them, a copy less lies on the stack. To hand a
-// copy of them to the function above would lay it there again.
-pub fn walk_lent(
-    p: &Plan,
-    c: &Constraint,
-    users: [u64; MOST_TYPES],
-    running: u64,
-    instant: u32,
-    n: usize,
-    finished: u64,
-    starts: [u32; MOST_TASKS],
-    finishes: [u32; MOST_TASKS],
-) -> Ticked
-    requires { Walkable (state_from p.now c.now instant n finished starts finishes) users running }
-    ensures { result ≡ walked_on (state_from p.now c.now instant n finished starts finishes) }
-{
-    let len = c.len;
-    let begin = Walked {
-        begun: n,
-        running,
-        starts,
-    };
-    let w = walk(
-        &p.units,
-        &p.predecessors,
-        &p.releases,
-        &c.order,
-        &c.chosen,
-        &users,
-        len,
-        instant,
-        finished,
-        begin,
-    );
-    let after = w.starts;
-    let fresh = task_set::difference(w.running, running);
-    let state = State {
-        plan: *p,
-        constraint: *c,
-        instant,
-        started: w.begun,
-        finished,
-        starts: after,
-        finishes,
-    };
-    Ticked {
-        number: 0,
-        place: 0,
-        started: fresh,
-        state,
-    }
+    s.started = w.begun;
+    s.starts = after;
+    task_set::difference(w.running, running)
 }

@@ -5,6 +5,7 @@ use mathlib.Core.List.{List}
 use Prim.Native.Nat.{ℕ, ◌+◌, ◌≤◌, ◌<◌, min, zero-le}
 use native.Mathlib.Nat.{zero-min}
 use native.Mathlib.Omega.{arith}
+use borrow.Author.Tests.{le-leb, lt-leb}
 use lib.Dec.{eqb, leb}
 use lib.ListN.{get_or, set}
 use Rattle.task_set.specs.Bounded.{tabulate}
@@ -14,6 +15,13 @@ use Rattle.plan.specs.Refusals.{entry_at}
 use Rattle.live_marks.specs.declared.Marks.{Marks}
 use Rattle.live_marks.specs.Steps.{type_users, reached, marks_of}
 use Rattle.live_marks.proofs.Standing.{tasks_none, tasks_step, users_more}
+
+-- a set once its test is asked
+pub came : {w at x y : ℕ} (z : ℕ) → w ≤ at → y ≡ x → y ≡ cond (leb w at) x z
+came {w} {at} z l e = rw (le-leb w at l) e
+
+pub stays : {w at x y : ℕ} (z : ℕ) → at < w → y ≡ x → y ≡ cond (leb w at) z x
+stays {w} {at} z l e = rw (lt-leb w at l) e
 
 module _ (wcet starts order chosen : List ℕ) (n instant : ℕ) where
   -- at position k of len, of which those below n have started

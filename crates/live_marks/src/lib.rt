@@ -1,28 +1,11 @@
 // Sets of tasks that stand at the first positions of an order.
 #![tactic(auto)]
 
-ghost use Rattle.std.specs.Prelude.{◌≡◌, cond, ◌<◌, ◌≤◌, ◌^◌};
-ghost use Rattle.task_set.specs.Sets.{insert};
+ghost use Rattle.std.specs.Prelude.{◌≡◌, ◌≤◌};
 ghost use Rattle.plan.specs.Steps.{Positions};
 ghost use Rattle.live_marks.specs.Steps.{marks_of};
 
-use plan::{MOST_PAIRS, MOST_TASKS, MOST_TYPES};
-
-fn wide(x: u32) -> u64
-    ensures { (result ≡ x) × (result < 2 ^ 32) }
-{
-    x as u64
-}
-
-// The set with t where the test holds.
-fn inserted_if(hit: bool, s: u64, t: usize) -> u64
-    ensures { result ≡ cond hit (insert s t) s }
-{
-    if hit {
-        return task_set::inserted(s, t);
-    }
-    s
-}
+use plan::{Constraint, MOST_TASKS, MOST_TYPES, Plan};
 
 // The started tasks; those whose worst time has come; those whose worst time comes at the next instant; and the tasks of
 // the order by their chosen type.
@@ -35,37 +18,35 @@ pub struct Marks {
 }
 
 // One pass over the positions, of which the first n have started.
-pub fn mark_positions<'a>(
-    wcet: &'a [u32; MOST_PAIRS],
-    starts: &'a [u32; MOST_TASKS],
-    order: &'a [usize; MOST_TASKS],
-    chosen: &'a [usize; MOST_TASKS],
-    len: usize,
+pub fn mark_positions(
+    p: &Plan,
+    c: &Constraint,
+    starts: &[u32; MOST_TASKS],
     n: usize,
     instant: u32,
 ) -> Marks
-    requires { Positions order.now chosen.now len × (n ≤ len) }
-    ensures { result ≡ marks_of wcet.now starts.now order.now chosen.now
-        len n instant }
+    requires { Positions c.now.order c.now.chosen c.now.len × (n ≤ c.now.len) }
+    ensures { result ≡ marks_of p.now.wcet starts.now c.now.order c.now.chosen c.now.len n instant }
 {
-    let at = wide(instant);
+    let at = u64::from(instant);
     let mut started: u64 = 0;
     let mut spent: u64 = 0;
     let mut due: u64 = 0;
     let mut users = [0u64; MOST_TYPES];
-    let mut i = 0;
-    while i < len {
-        let t = order[i];
-        let k = chosen[i];
-        let s = users[k];
-        users[k] = task_set::inserted(s, t);
+    for i in 0..c.len {
+        let t = c.order[i];
+        let k = c.chosen[i];
+        users[k] = task_set::inserted(users[k], t);
         if i < n {
-            let worst = wide(starts[t]) + wide(plan::time_of(wcet, t, k));
+            let worst = u64::from(starts[t]) + u64::from(plan::time_of(&p.wcet, t, k));
             started = task_set::inserted(started, t);
-            spent = inserted_if(worst <= at, spent, t);
-            due = inserted_if(worst <= at + 1, due, t);
+            if worst <= at {
+                spent = task_set::inserted(spent, t);
+            }
+            if worst <= at + 1 {
+                due = task_set::inserted(due, t);
+            }
         }
-        i += 1;
     }
     Marks {
         started,

@@ -4,5 +4,5 @@
 mod step;
 mod verdicts;
 
-pub use step::stamped;
-pub use verdicts::{refused, report_verdict, unless};
+pub use step::stamp;
+pub use verdicts::report_checked;

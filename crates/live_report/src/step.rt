@@ -6,16 +6,15 @@ ghost use Rattle.live_report.specs.Steps.{stamp_at};
 
 use plan::MOST_TASKS;
 
-// The finishes, with the instant for each reported task.
-pub fn stamped(finishes: [u32; MOST_TASKS], report: u64, instant: u32) -> [u32; MOST_TASKS]
-    ensures { result ≡ tabulate most_tasks (stamp_at finishes report instant) }
+// The instant is stored as the finish of each reported task: the lowest that is left, by its trailing zeros, so that no other
+// task is looked at.
+pub fn stamp(finishes: &mut [u32; MOST_TASKS], report: u64, instant: u32)
+    ensures { finishes.new ≡ tabulate most_tasks (stamp_at finishes.old report instant) }
 {
-    let mut stamps = finishes;
     let mut left = report;
     while left != 0 {
         let t = task_set::lowest_member(left) as usize;
-        stamps[t] = instant;
+        finishes[t] = instant;
         left = task_set::removed(left, t);
     }
-    stamps
 }

@@ -26,8 +26,8 @@ unfoldable pub enough_for : List ℕ → List ℕ → ℕ → ℕ → Bool
 enough_for units users running k = leb (size (bit_and (get_or users k 0) running)) (get_or units k 0)
 
 -- the clauses of 12 after the first two, by sets
-unfoldable pub sound_by : List ℕ → List ℕ → List ℕ → List ℕ → List ℕ → Marks → Bool → ℕ → ℕ → Bool
-sound_by units users releases starts finishes m over finished instant =
+unfoldable pub sound_by : List ℕ → List ℕ → List ℕ → List ℕ → Marks → Bool → ℕ → ℕ → Bool
+sound_by units releases starts finishes m over finished instant =
     let running = without m.started finished in
     (all width (all_times_fit releases starts finishes m.started finished instant) && eqb (bit_and m.spent running) 0)
-    && (all most_types (enough_for units users running) && (leb instant last_instant && (over || ltb instant last_instant)))
+    && (all most_types (enough_for units m.users running) && (leb instant last_instant && (over || ltb instant last_instant)))

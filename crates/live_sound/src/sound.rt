@@ -6,9 +6,10 @@ ghost use Rattle.plan.specs.Rules.{most_tasks, most_types};
 ghost use Rattle.live_sound.specs.Steps.{all_times_fit, enough_for, sound_by, times_fit};
 
 use live_marks::Marks;
-use plan::{LAST_INSTANT, MOST_TASKS, MOST_TYPES};
+use plan::{LAST_INSTANT, MOST_TASKS, MOST_TYPES, Plan};
+use task_set::all_below;
 
-// The clauses about the start and the finish of a task.
+// The clauses about the start and the finish of a task, from what a state has of it in six places.
 fn times_fit(begun: bool, done: bool, release: u32, start: u32, finish: u32, instant: u32) -> bool
     ensures { result ≡ times_fit begun done release start finish instant }
 {
@@ -19,10 +20,11 @@ fn times_fit(begun: bool, done: bool, release: u32, start: u32, finish: u32, ins
     (!done | begun) & (started & (released & (ended & unused)))
 }
 
-fn all_times_fit<'a>(
-    releases: &'a [u32; MOST_TASKS],
-    starts: &'a [u32; MOST_TASKS],
-    finishes: &'a [u32; MOST_TASKS],
+// They hold of each task.
+fn all_times_fit(
+    releases: &[u32; MOST_TASKS],
+    starts: &[u32; MOST_TASKS],
+    finishes: &[u32; MOST_TASKS],
     started: u64,
     finished: u64,
     instant: u32,
@@ -30,33 +32,22 @@ fn all_times_fit<'a>(
     ensures { result ≡ all width
         (all_times_fit releases.now starts.now finishes.now started finished instant) }
 {
-    let mut ok = true;
-    let mut t = 0;
-    while t < MOST_TASKS {
-        let b = task_set::contains(started, t);
-        let d = task_set::contains(finished, t);
+    all_below(MOST_TASKS, |t| {
+        let begun = task_set::contains(started, t);
+        let done = task_set::contains(finished, t);
         let release = plan::release_of(releases, t);
-        ok = ok & times_fit(b, d, release, starts[t], finishes[t], instant);
-        t += 1;
-    }
-    ok
+        times_fit(begun, done, release, starts[t], finishes[t], instant)
+    })
 }
 
 // No type has more running tasks than units.
-fn enough_units<'a>(
-    units: &'a [u32; MOST_TYPES],
-    users: &'a [u64; MOST_TYPES],
-    running: u64,
-) -> bool
+fn enough_units(units: &[u32; MOST_TYPES], users: &[u64; MOST_TYPES], running: u64) -> bool
     ensures { result ≡ all most_types (enough_for units.now users.now running) }
 {
-    let mut ok = true;
-    let mut k = 0;
-    while k < MOST_TYPES {
-        ok = ok & (task_set::member_count(users[k] & running) <= units[k]);
-        k += 1;
-    }
-    ok
+    all_below(
+        MOST_TYPES,
+        |k| task_set::member_count(users[k] & running) <= units[k],
+    )
 }
 
 // Whether each of the first tasks is finished.
@@ -65,27 +56,25 @@ pub fn is_over(tasks: usize, finished: u64) -> bool
     ensures { result ≡ all tasks (has finished) }
 {
     let done = task_set::members_below(finished, tasks);
-    (task_set::member_count(done) as usize) == tasks
+    task_set::member_count(done) as usize == tasks
 }
 
-// The clauses after the first two, of a state whose marks and types' users are known.
-pub fn is_sound<'a>(
-    units: &'a [u32; MOST_TYPES],
-    users: &'a [u64; MOST_TYPES],
-    releases: &'a [u32; MOST_TASKS],
-    starts: &'a [u32; MOST_TASKS],
-    finishes: &'a [u32; MOST_TASKS],
-    m: Marks,
+// The clauses after the first two, of a state with these marks, starts and finishes: the state itself is a struct of a crate above.
+pub fn is_sound(
+    p: &Plan,
+    m: &Marks,
+    starts: &[u32; MOST_TASKS],
+    finishes: &[u32; MOST_TASKS],
     over: bool,
     finished: u64,
     instant: u32,
 ) -> bool
-    ensures { result ≡ sound_by units.now users.now releases.now starts.now
-        finishes.now m over finished instant }
+    ensures { result ≡ sound_by p.now.units p.now.releases starts.now finishes.now m.now
+        over finished instant }
 {
     let running = task_set::difference(m.started, finished);
     let early = (instant <= LAST_INSTANT) & (over | (instant < LAST_INSTANT));
-    all_times_fit(releases, starts, finishes, m.started, finished, instant)
+    all_times_fit(&p.releases, starts, finishes, m.started, finished, instant)
         & ((m.spent & running) == 0)
-        & (enough_units(units, users, running) & early)
+        & (enough_units(&p.units, &m.users, running) & early)
 }

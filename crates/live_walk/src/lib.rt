@@ -3,75 +3,45 @@
 
 ghost use Rattle.std.specs.Prelude.{◌≡◌, ◌-◌};
 ghost use Rattle.plan.specs.Steps.{Positions};
-ghost use Rattle.live_walk.specs.Steps.{may_go, walk_from};
+ghost use Rattle.live_walk.specs.Steps.{walk_from};
 
-use plan::{MOST_TASKS, MOST_TYPES};
+use plan::{Constraint, MOST_TASKS, MOST_TYPES, Plan};
 
 // How far a walk has come: how many tasks of the order have started, those running, and the starts.
-#[derive(Drop)]
+#[derive(Clone, Copy)]
 pub struct Walked {
     pub begun: usize,
     pub running: u64,
     pub starts: [u32; MOST_TASKS],
 }
 
-// Whether a task with these predecessors and this not-before instant may start on a type with so many units.
-fn may_go(
-    predecessors: u64,
-    finished: u64,
-    release: u32,
-    instant: u32,
-    users: u64,
-    running: u64,
-    units: u32,
-) -> bool
-    ensures { result ≡ may_go predecessors finished release instant users running units }
-{
-    task_set::is_subset(predecessors, finished)
-        & ((release <= instant) & (task_set::member_count(users & running) < units))
-}
-
-// Tasks of the order start at the instant, one after the other, up to the first that may not.
-pub fn walk<'a>(
-    units: &'a [u32; MOST_TYPES],
-    predecessors: &'a [u64; MOST_TASKS],
-    releases: &'a [u32; MOST_TASKS],
-    order: &'a [usize; MOST_TASKS],
-    chosen: &'a [usize; MOST_TASKS],
-    users: &'a [u64; MOST_TYPES],
-    len: usize,
+// Tasks of the order start at the instant, one after the other, up to the first that may not: all its predecessors must be
+// finished, its not-before instant must have come, and a unit of its type must be free.
+pub fn walk(
+    p: &Plan,
+    c: &Constraint,
+    users: &[u64; MOST_TYPES],
     instant: u32,
     finished: u64,
-    w: Walked,
+    mut w: Walked,
 ) -> Walked
-    requires { Positions order.now chosen.now len }
-    ensures { result ≡ walk_from units.now predecessors.now releases.now order.now
-        chosen.now users.now instant finished (len - w.begun) w }
+    requires { Positions c.now.order c.now.chosen c.now.len }
+    ensures { result ≡ walk_from p.now.units p.now.predecessors p.now.releases c.now.order
+        c.now.chosen users.now instant finished (c.now.len - w.begun) w }
 {
-    let mut n = w.begun;
-    let mut running = w.running;
-    let mut starts = w.starts;
-    while n < len {
-        let t = order[n];
-        let k = chosen[n];
-        let s = plan::predecessors_of(predecessors, t);
-        let release = plan::release_of(releases, t);
-        let may = may_go(s, finished, release, instant, users[k], running, units[k]);
-        let stops = !may;
-        if stops {
-            return Walked {
-                begun: n,
-                running,
-                starts,
-            };
+    for n in w.begun..c.len {
+        let t = c.order[n];
+        let k = c.chosen[n];
+        let ready = task_set::is_subset(plan::predecessors_of(&p.predecessors, t), finished);
+        let released = plan::release_of(&p.releases, t) <= instant;
+        let free = task_set::member_count(users[k] & w.running) < p.units[k];
+        let may = ready & (released & free);
+        if !may {
+            return w;
         }
-        running = task_set::inserted(running, t);
-        starts[t] = instant;
-        n += 1;
+        w.begun = n + 1;
+        w.running = task_set::inserted(w.running, t);
+        w.starts[t] = instant;
     }
-    Walked {
-        begun: n,
-        running,
-        starts,
-    }
+    w
 }

@@ -4,11 +4,12 @@ use mathlib.Core.Bool.{Bool, true, false, cond, not}
 use Prim.Native.Nat.{ℕ, ◌<◌}
 use native.Mathlib.Nat.{le_refl}
 use native.Mathlib.Omega.{arith}
-use borrow.Author.Tests.{eq-eqb, eqb-true, le-ltb, ltb-false, not-false}
+use borrow.Author.Tests.{eq-eqb, eqb-true, lt-ltb, le-ltb, ltb-false, not-false}
 use lib.Dec.{eqb, ltb}
-use Rattle.task_set.specs.Bounded.{first}
+use Rattle.std.specs.Prelude.{Some, None}
+use Rattle.task_set.specs.Bounded.{first, found}
 use Rattle.task_set.proofs.Truth.{by_test}
-use Rattle.task_set.proofs.Search.{first_absent, first_cong, first_none}
+use Rattle.task_set.proofs.Search.{first_absent, first_cong, first_none, found_some, found_not}
 use Rattle.plan.specs.declared.Plan.{Plan}
 use Rattle.plan.specs.declared.Constraint.{Constraint}
 use Rattle.plan.specs.declared.Verdict.{Verdict}
@@ -65,6 +66,37 @@ module _ (p : Plan) (c : Constraint) where
           (unless_by 11 n (at_11 n) no_refusal (ez ∙ first_cong n _ (at_11 n) (λ i l. later_unmet p kept c.order ok i l)))
           ∙ unless_by 10 n at_10 past_10 ey
 
+  -- the same by what the searches tell, one after the other
+  module _ (kept : plan_ok p ≡ true) (whole : c.len ≡ p.tasks) where
+    pub refused_by_9 : {i : ℕ} → Some i ≡ found p.tasks at_9 → refused 9 i ≡ verdict p c
+    refused_by_9 {i} e =
+        let q = found_some p.tasks at_9 e in
+        rw (lt-ltb i p.tasks q.1) at (order_by_lem kept whole q.0 refl refl)
+
+    module _ (nine : None ≡ found p.tasks at_9) where
+      pub refused_by_10 : {i : ℕ} → Some i ≡ found p.tasks at_10 → refused 10 i ≡ verdict p c
+      refused_by_10 {i} e =
+          let q = found_some p.tasks at_10 e in
+          rw (le-ltb _ p.tasks (found_not p.tasks at_9 nine), lt-ltb i p.tasks q.1) at (order_by_lem kept whole refl q.0 refl)
+
+      module _ (ten : None ≡ found p.tasks at_10) where
+        pub refused_by_11 : {i : ℕ} → Some i ≡ found p.tasks (unmet p.predecessors c.order) → refused 11 i ≡ verdict p c
+        refused_by_11 {i} e =
+            let q = found_some p.tasks (unmet p.predecessors c.order) e in
+            rw (
+              le-ltb _ p.tasks (found_not p.tasks at_9 nine),
+              le-ltb _ p.tasks (found_not p.tasks at_10 ten),
+              lt-ltb i p.tasks q.1,
+            ) at (order_by_lem kept whole refl refl q.0)
+
+        pub refused_by_none : None ≡ found p.tasks (unmet p.predecessors c.order) → no_refusal ≡ verdict p c
+        refused_by_none e =
+            rw (
+              le-ltb _ p.tasks (found_not p.tasks at_9 nine),
+              le-ltb _ p.tasks (found_not p.tasks at_10 ten),
+              le-ltb _ p.tasks (found_not p.tasks (unmet p.predecessors c.order) e),
+            ) at (order_by_lem kept whole refl refl refl)
+
   -- ---- nothing is refused
 
   -- where no position is at fault
@@ -99,3 +131,10 @@ module _ (p : Plan) (c : Constraint) where
         usable = λ i l. r10.0 i (omega arith);
         ordered = λ i l. rw whole at (r11.0 i (omega arith));
       }
+
+  -- the number 0 comes with the place 0
+  pub taken_is : (verdict p c).number ≡ 0 → no_refusal ≡ verdict p c
+  taken_is e =
+      let q = passed e in
+      sym (accepts q.kept q.whole q.placed q.usable
+      (λ i l. later_unmet p q.kept c.order q.placed i l ∙ q.ordered i l))

@@ -1,5 +1,5 @@
 -- What the check answers (document 01, "When an operation says no", Check). Assumes nothing.
-use Rattle.std.specs.Prelude.{Bool, cond, ◌&&◌, ◌||◌, not, List, ℕ, eqb, leb, ltb, get_or, replicate}
+use Rattle.std.specs.Prelude.{Bool, cond, ◌&&◌, ◌||◌, not, List, ℕ, eqb, leb, ltb, get_or, replicate, Result, Ok, Err, ⊤}
 use Rattle.task_set.specs.Bounded.{any, first}
 use Rattle.task_set.specs.Sets.{has}
 use Rattle.plan.specs.declared.Plan.{Plan}
@@ -31,6 +31,10 @@ refused number place = record { number = number; place = place }
 
 abbrev pub no_refusal : Verdict
 no_refusal = refused 0 0
+
+-- Ok where nothing is refused, otherwise the refusal
+unfoldable pub as_result : Verdict → Result ⊤ Verdict
+as_result v = cond (eqb v.number 0) (Ok tt) (Err v)
 
 -- a plan and a constraint with these parts
 abbrev pub plan_of : ℕ → List ℕ → ℕ → List ℕ → List ℕ → List ℕ → List ℕ → List ℕ → Plan

@@ -2,7 +2,7 @@
 #![tactic(auto)]
 
 ghost use Rattle.std.specs.Prelude.{◌≡◌};
-ghost use Rattle.plan.specs.Refusals.{no_constraint, no_plan};
+ghost use Rattle.plan.specs.Refusals.{no_constraint, no_plan, no_refusal, refused};
 ghost use Rattle.plan.specs.Rules.{deadline_of, instant_of, pair_place, predecessors_of, release_of, time_of, usable};
 
 pub const MOST_TYPES: usize = 8;
@@ -37,7 +37,7 @@ pub struct Plan {
     pub releases: [u32; MOST_TASKS],
 }
 
-// The execution order and the chosen type of each task: the first `len` entries of two arrays.
+// The execution order and the chosen type of each task: the first `len` entries of two arrays, as C has them.
 #[repr(C)]
 #[derive(Clone, Copy)]
 pub struct Constraint {
@@ -46,12 +46,29 @@ pub struct Constraint {
     pub chosen: [usize; MOST_TASKS],
 }
 
-// The number and the place of a refusal; 0 and 0 where nothing is refused.
+// The number and the place of a refusal; 0 and 0 where nothing is refused. C is handed this and the other structs with `repr(C)`, so
+// they have such fields where an answer inside is an Option or a Result.
 #[repr(C)]
 #[derive(Clone, Copy)]
 pub struct Verdict {
     pub number: u32,
     pub place: usize,
+}
+
+impl Verdict {
+    // A refusal by its number and its place.
+    pub fn refused(number: u32, place: usize) -> Verdict
+        ensures { result ≡ refused number place }
+    {
+        Verdict { number, place }
+    }
+
+    // That nothing is refused.
+    pub fn none() -> Verdict
+        ensures { result ≡ no_refusal }
+    {
+        Verdict::refused(0, 0)
+    }
 }
 
 pub fn no_plan() -> Plan
@@ -96,11 +113,7 @@ pub fn pair_index(t: usize, k: usize) -> usize
 pub fn time_of(times: &[u32; MOST_PAIRS], t: usize, k: usize) -> u32
     ensures { result ≡ time_of times.now t k }
 {
-    let i = pair_index(t, k);
-    if MOST_PAIRS <= i {
-        return 0;
-    }
-    times[i]
+    times.get(pair_index(t, k)).copied().unwrap_or(0)
 }
 
 pub fn is_usable(wcet: &[u32; MOST_PAIRS], t: usize, k: usize) -> bool
@@ -113,23 +126,17 @@ pub fn is_usable(wcet: &[u32; MOST_PAIRS], t: usize, k: usize) -> bool
 pub fn predecessors_of(predecessors: &[u64; MOST_TASKS], t: usize) -> u64
     ensures { result ≡ predecessors_of predecessors.now t }
 {
-    if MOST_TASKS <= t {
-        return 0;
-    }
-    predecessors[t]
+    predecessors.get(t).copied().unwrap_or(0)
 }
 
 // The instant of task t, from one for each task; 0 for none, and past the last task.
 pub fn instant_of(instants: &[u32; MOST_TASKS], t: usize) -> u32
     ensures { result ≡ instant_of instants.now t }
 {
-    if MOST_TASKS <= t {
-        return 0;
-    }
-    instants[t]
+    instants.get(t).copied().unwrap_or(0)
 }
 
-// The deadline of task t.
+// The deadline of task t. This and the next are one function by two words of the paper, each with its promise.
 pub fn deadline_of(deadlines: &[u32; MOST_TASKS], t: usize) -> u32
     ensures { result ≡ deadline_of deadlines.now t }
 {

@@ -1,4 +1,3 @@
 -- What the functions of the check find.
 -- the order: sets of tasks passed, tests of one position
 pub mod Placing
-pub mod Judging

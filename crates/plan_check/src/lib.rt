@@ -1,120 +1,88 @@
 // The check: the plan's rules, then three passes over the order of the constraint.
 #![tactic(auto)]
 
-ghost use Rattle.std.specs.Prelude.{◌≡◌, cond, ltb, ◌≤◌};
-ghost use Rattle.task_set.specs.Bounded.{first};
+ghost use Rattle.std.specs.Prelude.{◌≡◌, ◌≤◌};
+ghost use Rattle.task_set.specs.Bounded.{found};
 ghost use Rattle.plan.specs.Rules.{most_tasks};
-ghost use Rattle.plan.specs.Refusals.{misplaced, refused as refusedAt, unusable, verdict};
+ghost use Rattle.plan.specs.Refusals.{as_result, misplaced, unusable, verdict};
 ghost use Rattle.plan.specs.Steps.{unmet};
 
-use plan::{Constraint, MOST_PAIRS, MOST_TASKS, Plan, Verdict, is_usable, predecessors_of};
-use plan_rules::rules_hold;
+use plan::{Constraint, Plan, Verdict, is_usable, predecessors_of};
+use plan_rules::plan_ok;
 
-// 9: the first position whose task is absent or repeats, and the length where there is none.
-fn first_misplaced(tasks: usize, order: &[usize; MOST_TASKS], len: usize) -> usize
-    requires { (len ≤ most_tasks) × (tasks ≤ most_tasks) }
-    ensures { result ≡ first len (misplaced tasks order.now) }
+// 9: the first position whose task is absent or repeats. A set grows with the positions, here and in 11, so each is a loop.
+fn first_misplaced(p: &Plan, c: &Constraint) -> Option<usize>
+    requires { p.now.tasks ≤ most_tasks }
+    ensures { result ≡ found p.now.tasks (misplaced p.now.tasks c.now.order) }
 {
     let mut seen: u64 = 0;
-    let mut i = 0;
-    while i < len {
-        let t = order[i];
-        if (tasks <= t) | task_set::contains(seen, t) {
-            return i;
+    for i in 0..p.tasks {
+        let t = c.order[i];
+        if (p.tasks <= t) | task_set::contains(seen, t) {
+            return Some(i);
         }
         seen = task_set::inserted(seen, t);
-        i += 1;
     }
-    len
+    None
 }
 
 // 10: the first position whose type the task cannot use, or is absent.
-fn first_unusable<'a>(
-    types: usize,
-    wcet: &'a [u32; MOST_PAIRS],
-    order: &'a [usize; MOST_TASKS],
-    chosen: &'a [usize; MOST_TASKS],
-    len: usize,
-) -> usize
-    requires { len ≤ most_tasks }
-    ensures { result ≡ first len (unusable types wcet.now order.now chosen.now) }
+fn first_unusable(p: &Plan, c: &Constraint) -> Option<usize>
+    requires { p.now.tasks ≤ most_tasks }
+    ensures { result ≡ found p.now.tasks (unusable p.now.types p.now.wcet c.now.order c.now.chosen) }
 {
-    let mut i = 0;
-    while i < len {
-        let t = order[i];
-        let k = chosen[i];
-        if (types <= k) | !is_usable(wcet, t, k) {
-            return i;
-        }
-        i += 1;
-    }
-    len
+    (0..p.tasks).find(|&i| {
+        let t = c.order[i];
+        let k = c.chosen[i];
+        (p.types <= k) | !is_usable(&p.wcet, t, k)
+    })
 }
 
 // 11, in an order of all tasks: the first position with a predecessor that does not stand before it.
-fn first_unmet<'a>(
-    predecessors: &'a [u64; MOST_TASKS],
-    order: &'a [usize; MOST_TASKS],
-    len: usize,
-) -> usize
-    requires { len ≤ most_tasks }
-    ensures { result ≡ first len (unmet predecessors.now order.now) }
+fn first_unmet(p: &Plan, c: &Constraint) -> Option<usize>
+    requires { p.now.tasks ≤ most_tasks }
+    ensures { result ≡ found p.now.tasks (unmet p.now.predecessors c.now.order) }
 {
     let mut placed: u64 = 0;
-    let mut i = 0;
-    while i < len {
-        let t = order[i];
-        if !task_set::is_subset(predecessors_of(predecessors, t), placed) {
-            return i;
+    for i in 0..p.tasks {
+        let t = c.order[i];
+        if !task_set::is_subset(predecessors_of(&p.predecessors, t), placed) {
+            return Some(i);
         }
         placed = task_set::inserted(placed, t);
-        i += 1;
     }
-    len
+    None
 }
 
-fn refused(number: u32, place: usize) -> Verdict
-    ensures { result ≡ refusedAt number place }
+// What the check finds of a plan and a constraint that are lent: that it takes both, or 8 to 11 with the place.
+pub fn checked(p: &Plan, c: &Constraint) -> Result<(), Verdict>
+    ensures { result ≡ as_result (verdict p.now c.now) }
 {
-    Verdict { number, place }
-}
-
-// Refused at a place below n, otherwise what follows.
-fn unless_at(number: u32, place: usize, n: usize, rest: Verdict) -> Verdict
-    ensures { result ≡ cond (ltb place n) (refusedAt number place) rest }
-{
-    if place < n {
-        return refused(number, place);
+    if !plan_ok(p) {
+        return Err(Verdict::refused(8, 0));
     }
-    rest
+    let len = c.len;
+    if len != p.tasks {
+        return Err(Verdict::refused(9, len));
+    }
+    if let Some(misplaced) = first_misplaced(p, c) {
+        return Err(Verdict::refused(9, misplaced));
+    }
+    if let Some(unusable) = first_unusable(p, c) {
+        return Err(Verdict::refused(10, unusable));
+    }
+    if let Some(unmet) = first_unmet(p, c) {
+        return Err(Verdict::refused(11, unmet));
+    }
+    Ok(())
 }
 
-// What the check finds: 8 to 11 with their places, or that it takes both.
+// The same, with 0 and 0 where it takes both.
 pub fn check(p: Plan, c: Constraint) -> Verdict
     ensures { result ≡ verdict p c }
 {
-    let types = p.types;
-    let tasks = p.tasks;
-    let len = c.len;
-    if !rules_hold(
-        types,
-        &p.units,
-        tasks,
-        &p.bcet,
-        &p.wcet,
-        &p.predecessors,
-        &p.deadlines,
-        &p.releases,
-    ) {
-        return refused(8, 0);
+    if let Err(refusal) = checked(&p, &c) {
+        return refusal;
     }
-    if len != tasks {
-        return refused(9, len);
-    }
-    let misplaced = first_misplaced(tasks, &c.order, tasks);
-    let unusable = first_unusable(types, &p.wcet, &c.order, &c.chosen, tasks);
-    let unmet = first_unmet(&p.predecessors, &c.order, tasks);
-    let eleven = unless_at(11, unmet, tasks, refused(0, 0));
-    let ten = unless_at(10, unusable, tasks, eleven);
-    unless_at(9, misplaced, tasks, ten)
+    Verdict::none()
 }

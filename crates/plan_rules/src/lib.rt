@@ -3,7 +3,6 @@
 
 ghost use Rattle.std.specs.Prelude.{◌≡◌, ◌<◌, ◌≤◌};
 ghost use Rattle.task_set.specs.Bounded.{all};
-ghost use Rattle.plan.specs.Refusals.{plan_of};
 ghost use Rattle.plan.specs.Rules.{counts_ok, instant_ok, most_pairs, most_tasks, most_types, plan_ok, predecessors_ok, units_ok};
 ghost use Rattle.plan.specs.Steps.{no_type_from, pair_fits, pair_fits_at, rest_ok, types_ok};
 
@@ -11,6 +10,7 @@ use plan::{
     LATEST_DEADLINE, LATEST_RELEASE, LONGEST_TIME, MOST_PAIRS, MOST_TASKS, MOST_TYPES, MOST_UNITS,
     Plan, instant_of, is_usable, predecessors_of,
 };
+use task_set::all_below;
 
 fn counts_ok(types: usize, tasks: usize) -> bool
     ensures { result ≡ counts_ok types tasks }
@@ -28,16 +28,10 @@ fn units_ok(types: usize, units: &[u32; MOST_TYPES], k: usize) -> bool
     present & ((1 <= n) & (n <= MOST_UNITS)) | !present & (n == 0)
 }
 
-fn all_units_ok(types: usize, units: &[u32; MOST_TYPES]) -> bool
-    ensures { result ≡ all most_types (units_ok types units.now) }
+fn all_units_ok(p: &Plan) -> bool
+    ensures { result ≡ all most_types (units_ok p.now.types p.now.units) }
 {
-    let mut ok = true;
-    let mut k = 0;
-    while k < MOST_TYPES {
-        ok = ok & units_ok(types, units, k);
-        k += 1;
-    }
-    ok
+    all_below(MOST_TYPES, |k| units_ok(p.types, &p.units, k))
 }
 
 // Whether a pair is 0 and 0, or 1 <= best <= worst <= LONGEST_TIME.
@@ -47,29 +41,21 @@ fn pair_fits(best: u32, worst: u32) -> bool
     (best <= worst) & ((worst <= LONGEST_TIME) & ((worst == 0) | (1 <= best)))
 }
 
-// One loop over all pairs, and no branch: the compiler then tests several pairs at once.
-fn all_pairs_fit<'a>(bcet: &'a [u32; MOST_PAIRS], wcet: &'a [u32; MOST_PAIRS]) -> bool
-    ensures { result ≡ all most_pairs (pair_fits_at bcet.now wcet.now) }
+// All pairs are tried, without a branch: the compiler then tests several at once.
+fn all_pairs_fit(p: &Plan) -> bool
+    ensures { result ≡ all most_pairs (pair_fits_at p.now.bcet p.now.wcet) }
 {
-    let mut ok = true;
-    let mut i = 0;
-    while i < MOST_PAIRS {
-        ok = ok & pair_fits(bcet[i], wcet[i]);
-        i += 1;
-    }
-    ok
+    all_below(MOST_PAIRS, |i| pair_fits(p.bcet[i], p.wcet[i]))
 }
 
-// Whether task t can use no type from n on.
+// Whether task t can use no type from n on. Each is tried, without a branch.
 fn no_type_from(wcet: &[u32; MOST_PAIRS], t: usize, n: usize) -> bool
     requires { n ≤ most_types }
     ensures { result ≡ no_type_from wcet.now t n }
 {
     let mut none = true;
-    let mut k = n;
-    while k < MOST_TYPES {
+    for k in n..MOST_TYPES {
         none = none & !is_usable(wcet, t, k);
-        k += 1;
     }
     none
 }
@@ -96,22 +82,13 @@ fn predecessors_ok(tasks: usize, predecessors: &[u64; MOST_TASKS], t: usize) -> 
 }
 
 // Whether each task number, present or absent, keeps the rules of types and predecessors.
-fn all_tasks_ok<'a>(
-    types: usize,
-    tasks: usize,
-    wcet: &'a [u32; MOST_PAIRS],
-    predecessors: &'a [u64; MOST_TASKS],
-) -> bool
-    requires { types ≤ most_types }
-    ensures { result ≡ all most_tasks (rest_ok types tasks wcet.now predecessors.now) }
+fn all_tasks_ok(p: &Plan) -> bool
+    requires { p.now.types ≤ most_types }
+    ensures { result ≡ all most_tasks (rest_ok p.now.types p.now.tasks p.now.wcet p.now.predecessors) }
 {
-    let mut ok = true;
-    let mut t = 0;
-    while t < MOST_TASKS {
-        ok = ok & (types_ok(types, tasks, wcet, t) & predecessors_ok(tasks, predecessors, t));
-        t += 1;
-    }
-    ok
+    all_below(MOST_TASKS, |t| {
+        types_ok(p.types, p.tasks, &p.wcet, t) & predecessors_ok(p.tasks, &p.predecessors, t)
+    })
 }
 
 // Whether task number t has none of these instants, or is a task of the plan and has one that is not too late.
@@ -125,54 +102,20 @@ fn instant_ok(tasks: usize, latest: u32, instants: &[u32; MOST_TASKS], t: usize)
 fn all_instants_ok(tasks: usize, latest: u32, instants: &[u32; MOST_TASKS]) -> bool
     ensures { result ≡ all most_tasks (instant_ok tasks latest instants.now) }
 {
-    let mut ok = true;
-    let mut t = 0;
-    while t < MOST_TASKS {
-        ok = ok & instant_ok(tasks, latest, instants, t);
-        t += 1;
-    }
-    ok
+    all_below(MOST_TASKS, |t| instant_ok(tasks, latest, instants, t))
 }
 
-// Whether the plan with these parts breaks no rule: they are lent, so that nothing is copied.
-pub fn rules_hold<'a>(
-    types: usize,
-    units: &'a [u32; MOST_TYPES],
-    tasks: usize,
-    bcet: &'a [u32; MOST_PAIRS],
-    wcet: &'a [u32; MOST_PAIRS],
-    predecessors: &'a [u64; MOST_TASKS],
-    deadlines: &'a [u32; MOST_TASKS],
-    releases: &'a [u32; MOST_TASKS],
-) -> bool
-    ensures { result ≡ plan_ok
-        (plan_of types units.now tasks bcet.now wcet.now predecessors.now
-        deadlines.now releases.now) }
+// Whether the plan breaks no rule: 8 alone. It is lent, so that nothing is copied.
+pub fn plan_ok(p: &Plan) -> bool
+    ensures { result ≡ plan_ok p.now }
 {
-    if !counts_ok(types, tasks) {
+    let tasks = p.tasks;
+    if !counts_ok(p.types, tasks) {
         return false;
     }
-    all_units_ok(types, units)
-        & (all_pairs_fit(bcet, wcet)
-            & all_tasks_ok(types, tasks, wcet, predecessors)
-            & (all_instants_ok(tasks, LATEST_DEADLINE, deadlines)
-                & all_instants_ok(tasks, LATEST_RELEASE, releases)))
-}
-
-// Whether the plan breaks no rule: 8 alone.
-pub fn plan_ok(p: Plan) -> bool
-    ensures { result ≡ plan_ok p }
-{
-    let types = p.types;
-    let tasks = p.tasks;
-    rules_hold(
-        types,
-        &p.units,
-        tasks,
-        &p.bcet,
-        &p.wcet,
-        &p.predecessors,
-        &p.deadlines,
-        &p.releases,
-    )
+    all_units_ok(p)
+        & (all_pairs_fit(p)
+            & all_tasks_ok(p)
+            & (all_instants_ok(tasks, LATEST_DEADLINE, &p.deadlines)
+                & all_instants_ok(tasks, LATEST_RELEASE, &p.releases)))
 }

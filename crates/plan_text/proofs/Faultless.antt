@@ -5,7 +5,7 @@ use Prim.Native.Nat.{ℕ}
 use native.Mathlib.Omega.{arith}
 use lib.Dec.{ltb}
 use Rattle.text_form.specs.declared.Line.{Line}
-use Rattle.text_fault.specs.Faults.{kind_of, unknown, repeated, first_fault}
+use Rattle.text_fault.specs.Faults.{kind_rank, kind_of, unknown, repeated, first_fault}
 use Rattle.text_range.specs.Ranges.{out_of_range, at_odds}
 use Rattle.plan_text.specs.Reading.{Reading, line_fault}
 
@@ -17,7 +17,7 @@ pub record Passed (r : Reading) (line : Line) : Type 0 where
 
 pub passed : (r : Reading) (line : Line) → line_fault r line ≡ 0 → Passed r line
 unfolding first_fault
-passed r line e = go (out_of_range line) (at_odds line) (ltb (kind_of line) r.seen.kind) _ _ refl refl refl e
+passed r line e = go (out_of_range line) (at_odds line) (ltb (kind_rank (kind_of line)) (kind_rank r.seen.kind)) _ _ refl refl refl e
   where
     go : (a b c d f : Bool) → out_of_range line ≡ a → unknown r.plan.types r.seen.timed line ≡ d
         → repeated r.plan.wcet r.plan.predecessors r.plan.deadlines r.seen line ≡ f

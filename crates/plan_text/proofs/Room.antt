@@ -11,6 +11,7 @@ use Rattle.task_set.proofs.Members.{has_none, has_insert}
 use Rattle.plan.specs.Rules.{most_tasks}
 use Rattle.text_form.specs.declared.Line.{Line}
 use Rattle.text_form.specs.declared.Line.TheVariants.{Units, Times, Arrow, Deadline, Release, Choice}
+use Rattle.text_fault.specs.declared.Kind.{Kind}
 use Rattle.text_fill.specs.Adding.{is_kind, counted}
 use Rattle.text_fill.proofs.InRange.{choice_task}
 use Rattle.plan_text.specs.Reading.{Reading, nothing, line_fault, line_done}
@@ -48,8 +49,8 @@ room r f e t k h =
     omega (arith, e, count_short width (has r.seen.listed) t g.0 g.1)
 
 -- a line adds at most one, and takes none away
-pub counted_le : (line : Line) (kind n : ℕ) → counted line kind n ≤ n + 1
+pub counted_le : (line : Line) (kind : Kind) (n : ℕ) → counted line kind n ≤ n + 1
 counted_le line kind n = by_test (is_kind line kind) (λ e. rw e (omega arith)) (λ e. rw e (omega arith))
 
-pub counted_ge : (line : Line) (kind n : ℕ) → n ≤ counted line kind n
+pub counted_ge : (line : Line) (kind : Kind) (n : ℕ) → n ≤ counted line kind n
 counted_ge line kind n = by_test (is_kind line kind) (λ e. rw e (omega arith)) (λ e. rw e (omega arith))

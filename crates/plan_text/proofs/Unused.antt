@@ -9,16 +9,15 @@ use lib.Dec.{eqb, ltb}
 use lib.ListN.{length, get_or, set, replicate}
 use lib.Seq.{get_or-set_other}
 use borrow.Author.Tests.{leb-false, ltb-true, eqb-true, not-false}
+use Rattle.std.proofs.Common.{Option, None, Some}
 use Rattle.task_set.specs.Sets.{has}
 use Rattle.task_set.proofs.Truth.{clash, by_test, and_right, or_cases}
 use Rattle.task_set.proofs.Members.{has_none, has_insert}
 use Rattle.plan.specs.Rules.{most_types, most_tasks, most_pairs, pair_index, time_of}
 use Rattle.text_form.specs.declared.Line.{Line}
 use Rattle.text_form.specs.declared.Line.TheVariants.{Units, Times, Arrow, Deadline, Release, Choice}
-use Rattle.text_form.specs.declared.LineForm.{LineForm}
-use Rattle.text_form.specs.declared.LineForm.TheVariants.{Of, NoForm}
 use Rattle.text_form.specs.Form.{most_bytes, newline, split, line_of}
-use Rattle.text_fault.specs.Faults.{kind_u, kind_t, kind_a, kind_d, kind_n, kind_c}
+use Rattle.text_fault.specs.declared.Kind.TheVariants as Kind
 use Rattle.text_fill.specs.Adding.{number, is_kind, counted, named, stored}
 use Rattle.text_fill.proofs.InRange.{times_pair}
 use Rattle.plan_text.specs.declared.Answer.{Answer}
@@ -92,11 +91,11 @@ outside_set true times t k v a h u m f = by_test (ltb u most_tasks && ltb m most
 
 -- where a line without a fault stores, by its kind
 record Fits (r : Reading) (line : Line) : Type 0 where
-  next : is_kind line kind_u ≡ true → number line 0 ≡ r.plan.types
-  pair : is_kind line kind_t ≡ true → (number line 0 < most_tasks) × (number line 1 < most_types) × (number line 1 < r.plan.types)
-  to : is_kind line kind_a ≡ true → has r.seen.timed (number line 1) ≡ true
-  due : is_kind line kind_d ≡ true → has r.seen.timed (number line 0) ≡ true
-  released : is_kind line kind_n ≡ true → has r.seen.timed (number line 0) ≡ true
+  next : is_kind line Kind.U ≡ true → number line 0 ≡ r.plan.types
+  pair : is_kind line Kind.T ≡ true → (number line 0 < most_tasks) × (number line 1 < most_types) × (number line 1 < r.plan.types)
+  to : is_kind line Kind.A ≡ true → has r.seen.timed (number line 1) ≡ true
+  due : is_kind line Kind.D ≡ true → has r.seen.timed (number line 0) ≡ true
+  released : is_kind line Kind.N ≡ true → has r.seen.timed (number line 0) ≡ true
 
 never : {P : Type 0} → false ≡ true → P
 never e = absurd (clash e refl)
@@ -119,23 +118,23 @@ pub record Kept (r : Reading) : Type 0 where
 
 module _ (r : Reading) (line : Line) (f : Fits r line) (h : Kept r) where
   abbrev tasks : ℕ
-  tasks = cond (is_kind line kind_t) (max r.plan.tasks (number line 0 + 1)) r.plan.tasks
+  tasks = cond (is_kind line Kind.T) (max r.plan.tasks (number line 0 + 1)) r.plan.tasks
 
   more_tasks : r.plan.tasks ≤ tasks
-  more_tasks = by_test (is_kind line kind_t) (λ e. rw e (omega arith)) (λ e. rw e (omega arith))
+  more_tasks = by_test (is_kind line Kind.T) (λ e. rw e (omega arith)) (λ e. rw e (omega arith))
 
   outside_more : (times : List ℕ) (i : ℕ) → Outside r.plan.tasks r.plan.types times
-      → Outside tasks (counted line kind_u r.plan.types)
-      (stored line kind_t times (pair_index (number line 0) (number line 1)) (number line i))
+      → Outside tasks (counted line Kind.U r.plan.types)
+      (stored line Kind.T times (pair_index (number line 0) (number line 1)) (number line i))
   outside_more times i o =
-      let m = counted_ge line kind_u r.plan.types in
-      outside_set (is_kind line kind_t) times (number line 0) (number line 1) (number line i)
+      let m = counted_ge line Kind.U r.plan.types in
+      outside_set (is_kind line Kind.T) times (number line 0) (number line 1) (number line i)
       (λ e. (rw e (omega arith), omega (arith, f.pair e, m), (f.pair e).1))
       (λ u k g. o u k (λ a b. g (omega (arith, more_tasks)) (omega (arith, m))))
 
-  timed_more : (t : ℕ) → has (named line kind_t r.seen.timed) t ≡ true → t < tasks
+  timed_more : (t : ℕ) → has (named line Kind.T r.seen.timed) t ≡ true → t < tasks
   timed_more t =
-      by_test (is_kind line kind_t)
+      by_test (is_kind line Kind.T)
       (λ e. rw e (λ q. ⊎_elim (λ g. omega (arith, h.timed t g)) (λ g. omega (arith, eqb-true (number line 0) t g))
       (or_cases (has r.seen.timed t) (eqb (number line 0) t)
       (sym (has_insert r.seen.timed (number line 0) t (f.pair e).0) ∙ q))))
@@ -147,21 +146,21 @@ module _ (r : Reading) (line : Line) (f : Fits r line) (h : Kept r) where
       let p = r.plan in
       let c = r.constraint in
       let u = h.unused in
-      let len = counted_ge line kind_c c.len in
+      let len = counted_ge line Kind.C c.len in
       record {
         unused = record {
-          units = past_set (is_kind line kind_u) p.units (number line 0) (number line 1) (λ e. rw e (omega (arith, f.next e)))
-              (counted_ge line kind_u p.types) u.units;
+          units = past_set (is_kind line Kind.U) p.units (number line 0) (number line 1) (λ e. rw e (omega (arith, f.next e)))
+              (counted_ge line Kind.U p.types) u.units;
           best = outside_more p.bcet 2 u.best;
           worst = outside_more p.wcet 3 u.worst;
-          predecessors = past_set (is_kind line kind_a) p.predecessors (number line 1) _
+          predecessors = past_set (is_kind line Kind.A) p.predecessors (number line 1) _
               (λ e. omega (arith, more_tasks, h.timed (number line 1) (f.to e))) more_tasks u.predecessors;
-          deadlines = past_set (is_kind line kind_d) p.deadlines (number line 0) (number line 1)
+          deadlines = past_set (is_kind line Kind.D) p.deadlines (number line 0) (number line 1)
               (λ e. omega (arith, more_tasks, h.timed (number line 0) (f.due e))) more_tasks u.deadlines;
-          releases = past_set (is_kind line kind_n) p.releases (number line 0) (number line 1)
+          releases = past_set (is_kind line Kind.N) p.releases (number line 0) (number line 1)
               (λ e. omega (arith, more_tasks, h.timed (number line 0) (f.released e))) more_tasks u.releases;
-          order = past_set (is_kind line kind_c) c.order c.len (number line 0) (λ e. rw e (omega arith)) len u.order;
-          chosen = past_set (is_kind line kind_c) c.chosen c.len (number line 1) (λ e. rw e (omega arith)) len u.chosen;
+          order = past_set (is_kind line Kind.C) c.order c.len (number line 0) (λ e. rw e (omega arith)) len u.order;
+          chosen = past_set (is_kind line Kind.C) c.chosen c.len (number line 1) (λ e. rw e (omega arith)) len u.chosen;
         };
         timed = timed_more;
       }
@@ -178,10 +177,10 @@ lines_unused [] k r h = h.unused
 lines_unused (end ∷ []) k r h = either (eqb (length end) 0) (λ e. h.unused) (none 2 k)
 lines_unused (line ∷ next ∷ rest) k r h = go (line_of line) (lines_unused (next ∷ rest) (k + 1))
   where
-    go : (form : LineForm) → ((s : Reading) → Kept s → Unused (read_lines (next ∷ rest) (k + 1) s))
+    go : (form : Option Line) → ((s : Reading) → Kept s → Unused (read_lines (next ∷ rest) (k + 1) s))
         → Unused (answer_by form k r (read_lines (next ∷ rest) (k + 1)))
-    go NoForm ih = none 2 k
-    go (Of line) ih =
+    go None ih = none 2 k
+    go (Some line) ih =
         either (eqb (line_fault r line) 0) (λ e. ih _ (kept_more r line (fits r line (passed r line (eqb-true _ 0 e))) h))
         (none _ k)
 

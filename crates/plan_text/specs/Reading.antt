@@ -7,7 +7,8 @@ use Rattle.plan.specs.Refusals.{no_plan, no_constraint}
 use Rattle.plan.specs.Rules.{pair_index, predecessors_of}
 use Rattle.text_form.specs.declared.Line.{Line}
 use Rattle.text_fault.specs.declared.Seen.{Seen}
-use Rattle.text_fault.specs.Faults.{kind_u, kind_t, kind_a, kind_d, kind_n, kind_c, kind_of, first_fault}
+use Rattle.text_fault.specs.declared.Kind.TheVariants as Kind
+use Rattle.text_fault.specs.Faults.{kind_of, first_fault}
 use Rattle.text_fill.specs.Adding.{number, is_kind, counted, named, stored}
 
 -- what was read so far; `seen` is the kind of the last line, and the tasks with a T line, with an N line and with a C line
@@ -18,7 +19,7 @@ pub record Reading : Type 0 where
 
 -- before the first line
 abbrev pub nothing : Reading
-nothing = record { plan = no_plan; constraint = no_constraint; seen = record { kind = 0; timed = 0; released = 0; listed = 0 } }
+nothing = record { plan = no_plan; constraint = no_constraint; seen = record { kind = Kind.U; timed = 0; released = 0; listed = 0 } }
 
 abbrev pub line_fault : Reading → Line → ℕ
 line_fault r = first_fault r.plan.types r.plan.wcet r.plan.predecessors r.plan.deadlines r.seen
@@ -32,24 +33,24 @@ line_done r line =
     let c = r.constraint in
     record {
       plan = record {
-        types = counted line kind_u p.types;
-        units = stored line kind_u p.units (v 0) (v 1);
-        tasks = cond (is_kind line kind_t) (max p.tasks (v 0 + 1)) p.tasks;
-        bcet = stored line kind_t p.bcet (pair_index (v 0) (v 1)) (v 2);
-        wcet = stored line kind_t p.wcet (pair_index (v 0) (v 1)) (v 3);
-        predecessors = stored line kind_a p.predecessors (v 1) (insert (predecessors_of p.predecessors (v 1)) (v 0));
-        deadlines = stored line kind_d p.deadlines (v 0) (v 1);
-        releases = stored line kind_n p.releases (v 0) (v 1);
+        types = counted line Kind.U p.types;
+        units = stored line Kind.U p.units (v 0) (v 1);
+        tasks = cond (is_kind line Kind.T) (max p.tasks (v 0 + 1)) p.tasks;
+        bcet = stored line Kind.T p.bcet (pair_index (v 0) (v 1)) (v 2);
+        wcet = stored line Kind.T p.wcet (pair_index (v 0) (v 1)) (v 3);
+        predecessors = stored line Kind.A p.predecessors (v 1) (insert (predecessors_of p.predecessors (v 1)) (v 0));
+        deadlines = stored line Kind.D p.deadlines (v 0) (v 1);
+        releases = stored line Kind.N p.releases (v 0) (v 1);
       };
       constraint = record {
-        len = counted line kind_c c.len;
-        order = stored line kind_c c.order c.len (v 0);
-        chosen = stored line kind_c c.chosen c.len (v 1);
+        len = counted line Kind.C c.len;
+        order = stored line Kind.C c.order c.len (v 0);
+        chosen = stored line Kind.C c.chosen c.len (v 1);
       };
       seen = record {
         kind = kind_of line;
-        timed = named line kind_t r.seen.timed;
-        released = named line kind_n r.seen.released;
-        listed = named line kind_c r.seen.listed;
+        timed = named line Kind.T r.seen.timed;
+        released = named line Kind.N r.seen.released;
+        listed = named line Kind.C r.seen.listed;
       };
     }

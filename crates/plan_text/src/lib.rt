@@ -2,17 +2,18 @@
 #![tactic(auto)]
 
 ghost use Rattle.std.specs.Prelude.{◌≡◌};
+ghost use Rattle.plan.specs.Refusals.{no_constraint, no_plan};
 ghost use Rattle.plan_text.specs.Reading.{nothing};
-ghost use Rattle.plan_text.specs.Text.{read_text, refused};
+ghost use Rattle.plan_text.specs.Text.{answer_from, read_text};
 
-use plan::{Constraint, Plan};
-use text_fault::{KIND_C, KIND_D, KIND_N, KIND_U, Seen, line_fault};
-pub use text_form::{Line, LineForm, MOST_DIGITS, read_line};
-use text_form::{line_at, line_end};
+use plan::{Constraint, Plan, Verdict};
+use text_fault::{Kind, Seen, line_fault};
+use text_form::line_at;
+pub use text_form::{Line, MOST_DIGITS, read_line};
 
 pub const MOST_BYTES: usize = 32768;
 
-// The plan and the constraint of an accepted text, with number and place 0; or a refusal's number and place, with zeros.
+// What C is handed: the plan and the constraint of an accepted text, with number and place 0; or a refusal's number and place, with zeros.
 #[repr(C)]
 #[derive(Drop)]
 pub struct Answer {
@@ -22,77 +23,64 @@ pub struct Answer {
     pub constraint: Constraint,
 }
 
-fn refuse(number: u32, place: usize) -> Answer
-    ensures { result ≡ refused number place }
-{
-    let plan = plan::no_plan();
-    let constraint = plan::no_constraint();
-    Answer {
-        number,
-        place,
-        plan,
-        constraint,
-    }
-}
-
-fn accept(plan: Plan, constraint: Constraint) -> Answer
-    ensures { result ≡ record { number = 0; place = 0; plan = plan; constraint = constraint } }
-{
-    Answer {
-        number: 0,
-        place: 0,
-        plan,
-        constraint,
-    }
-}
-
 // Before the first line.
 fn no_line() -> Seen
     ensures { result ≡ nothing.seen }
 {
     Seen {
-        kind: 0,
+        kind: Kind::U,
         timed: 0,
         released: 0,
         listed: 0,
     }
 }
 
+// Fills a plan and a constraint that are all zero by the lines of a text; or says which line is refused.
+fn read_lines(text: &[u8], p: &mut Plan, c: &mut Constraint) -> Result<(), Verdict>
+    requires { (p.old ≡ no_plan) × (c.old ≡ no_constraint) }
+    ensures { answer_from result p.new c.new ≡ read_text text.now }
+{
+    if MOST_BYTES < text.len() {
+        return Err(Verdict::refused(1, 0));
+    }
+    let mut seen = no_line();
+    let mut at = 0;
+    let mut place = 1;
+    // No `for`: where a line begins is known once the line before it is read.
+    while at < text.len() {
+        let Some((line, end)) = line_at(text, at) else {
+            return Err(Verdict::refused(2, place));
+        };
+        if let Some(fault) = line_fault(p, seen, line) {
+            return Err(Verdict::refused(fault.number(), place));
+        }
+        text_fill::add_to_plan(p, line);
+        text_fill::add_to_constraint(c, line);
+        seen = text_fill::seen(seen, line);
+        at = end + 1;
+        place += 1;
+    }
+    Ok(())
+}
+
 // The plan and the constraint of a text, or its first refusal.
 pub fn read(text: &[u8]) -> Answer
     ensures { result ≡ read_text text.now }
 {
-    if MOST_BYTES < text.len() {
-        return refuse(1, 0);
+    let mut plan = plan::no_plan();
+    let mut constraint = plan::no_constraint();
+    match read_lines(text, &mut plan, &mut constraint) {
+        Ok(()) => Answer {
+            number: 0,
+            place: 0,
+            plan,
+            constraint,
+        },
+        Err(refusal) => Answer {
+            number: refusal.number,
+            place: refusal.place,
+            plan: plan::no_plan(),
+            constraint: plan::no_constraint(),
+        },
     }
-    let mut p = plan::no_plan();
-    let mut c = plan::no_constraint();
-    let mut seen = no_line();
-    let mut at = 0;
-    let mut place = 1;
-    while at < text.len() {
-        let e = line_end(text, at);
-        let LineForm::Of(line) = line_at(text, at, e) else {
-            return refuse(2, place);
-        };
-        let fault = line_fault(p.types, &p.wcet, &p.predecessors, &p.deadlines, seen, line);
-        if fault != 0 {
-            return refuse(fault, place);
-        }
-        p.types = text_fill::counted(p.types, KIND_U, line);
-        text_fill::units(&mut p.units, line);
-        p.tasks = text_fill::tasks(p.tasks, line);
-        text_fill::times(&mut p.bcet, 2, line);
-        text_fill::times(&mut p.wcet, 3, line);
-        text_fill::predecessors(&mut p.predecessors, line);
-        text_fill::instants(&mut p.deadlines, KIND_D, line);
-        text_fill::instants(&mut p.releases, KIND_N, line);
-        text_fill::entries(c.len, &mut c.order, 0, line);
-        text_fill::entries(c.len, &mut c.chosen, 1, line);
-        c.len = text_fill::counted(c.len, KIND_C, line);
-        seen = text_fill::seen(seen, line);
-        at = e + 1;
-        place += 1;
-    }
-    accept(p, c)
 }

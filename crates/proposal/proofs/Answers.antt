@@ -3,6 +3,7 @@ use mathlib.Core.Path.{◌≡◌, refl, sym, ap, ◌∙◌, subst}
 use mathlib.Core.List.{List}
 use Prim.Native.Nat.{ℕ, ◌≤◌, ◌<◌, zero-le}
 use native.Mathlib.Nat.{lt_of_lt_of_le}
+use native.Mathlib.Omega.{arith}
 use borrow.Author.Tests.{eq-eqb, ne_eqb, eqb-true, lt-ltb}
 use lib.Dec.{eqb}
 use lib.ListN.{get_or}
@@ -16,8 +17,9 @@ use Rattle.plan.specs.Rules.{most_tasks}
 use Rattle.plan.specs.Refusals.{no_constraint, verdict}
 use Rattle.plan.proofs.Kept.{few_tasks}
 use Rattle.runs.specs.Running.{bound}
-use Rattle.ranks.specs.declared.Ranking.{Ranking}
-use Rattle.ranks.specs.Ranks.{ranks_of, ranked}
+use Rattle.ranks.specs.declared.Unranked.{Unranked}
+use Rattle.ranks.specs.declared.Unranked.TheVariants.{Faulty, Circular}
+use Rattle.ranks.specs.Ranks.{number_of, ranks_of, Ranking, ranked}
 use Rattle.ranks.proofs.Callers.{Ranked, not_refused}
 use Rattle.adoption_theory.specs.Schedules.{greatest_finish, constraint_by}
 use Rattle.proposal_theory.specs.declared.Proposal.{Proposal}
@@ -27,6 +29,11 @@ use Rattle.proposal_order.specs.Steps.{place_by, task_by, order_by, Apart, rank_
 use Rattle.proposal_order.proofs.Keys.{order_low, rank_keys_apart, rank_key_before}
 use Rattle.proposal.specs.Steps.{Orderly}
 use Rattle.proposal.proofs.Steps.{bench_cong}
+
+-- no refusal has the number 0
+pub number-some : (reason : Unranked) → number_of reason ≡ 0 → ⊥
+number-some Faulty e = omega arith
+number-some Circular e = omega arith
 
 module _ (p : Plan) where
   pub says-no : {r : Ranking} → r ≡ ranked p → (r.number ≡ 0 → ⊥) → proposal_of r.number 0 no_constraint ≡ proposed p

@@ -2,25 +2,26 @@
 #![tactic(auto)]
 
 ghost use Rattle.std.specs.Prelude.{◌≡◌, ◌≤◌};
-ghost use Rattle.plan.specs.Refusals.{no_constraint, verdict};
+ghost use Rattle.plan.specs.Refusals.{verdict};
 ghost use Rattle.runs.specs.Running.{bound};
 ghost use Rattle.adoption_theory.specs.Schedules.{greatest_finish};
-ghost use Rattle.proposal_theory.specs.Proposals.{proposal_of, proposed, schedule_by};
+ghost use Rattle.proposal_theory.specs.Proposals.{proposed, schedule_by};
+ghost use Rattle.proposal.specs.Steps.{answered};
 
-use plan::Plan;
+use plan::{Constraint, Plan};
 use proposal_theory::Proposal;
+use ranks::Unranked;
 
 mod placing;
 
-fn refused(number: u32) -> Proposal
-    ensures { result ≡ proposal_of number 0 no_constraint }
+// The constraint of the schedule in which the tasks are placed by falling rank.
+fn constraint_for(p: &Plan) -> Result<Constraint, Unranked>
+    ensures { answered result ≡ proposed p.now }
 {
-    let constraint = plan::no_constraint();
-    Proposal {
-        number,
-        place: 0,
-        constraint,
-    }
+    let ranks = ranks::ranks(p)?;
+    let keys = proposal_order::rank_keys(&ranks);
+    let by_rank = proposal_order::by_falling(&keys, p.tasks);
+    Ok(placing::constraint_of(p, &by_rank))
 }
 
 // What the bench proposes for a plan: a constraint that the check takes, with a bound of at most the greatest finish of the schedule
@@ -30,18 +31,16 @@ pub fn propose(p: Plan) -> Proposal
     ensures passes { result.number ≡ 0 → (verdict p result.constraint).number ≡ 0 }
     ensures in_time { result.number ≡ 0 → bound p result.constraint ≤ greatest_finish (schedule_by p) }
 {
-    let r = ranks::ranks(p);
-    let no_ranks = r.number != 0;
-    if no_ranks {
-        return refused(r.number);
-    }
-    let tasks = p.tasks;
-    let keys = proposal_order::rank_keys(&r.ranks);
-    let by_rank = proposal_order::by_falling(&keys, tasks);
-    let constraint = placing::constraint_of(p, &by_rank);
-    Proposal {
-        number: 0,
-        place: 0,
-        constraint,
+    match constraint_for(&p) {
+        Ok(constraint) => Proposal {
+            number: 0,
+            place: 0,
+            constraint,
+        },
+        Err(reason) => Proposal {
+            number: reason.number(),
+            place: 0,
+            constraint: plan::no_constraint(),
+        },
     }
 }

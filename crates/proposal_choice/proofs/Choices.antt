@@ -1,16 +1,17 @@
 -- The unit that a task takes, as the loops find it: the earliest start on a type, the best type, the first unit that is free
 -- then. Assumes nothing.
-use mathlib.Core.Path.{◌≡◌, sym, ap, ◌∙◌, subst}
+use mathlib.Core.Path.{◌≡◌, refl, sym, ap, ◌∙◌, subst}
 use mathlib.Core.Bool.{Bool, true, false, ◌||◌}
 use mathlib.Core.List.{List}
 use mathlib.Core.Logic.{⊎_elim}
 use Prim.Native.Nat.{ℕ, ◌+◌, ◌*◌, ◌-◌, ◌%◌, ◌≤◌, ◌<◌, min, zero-le}
-use native.Mathlib.Nat.{add-zero, eq-or-lt_of_le, le_of_lt, le_trans, lt_of_lt_of_le, not-suc-le-zero}
+use native.Mathlib.Nat.{add-zero, eq-or-lt_of_le, le_refl, le_of_lt, le_trans, lt_of_lt_of_le, not-suc-le-zero}
 use native.Mathlib.Omega.{arith}
 use borrow.Author.Count.{below_none, below_more}
-use borrow.Author.Tests.{eqb-true, eqb-false, leb-true, leb-false, ltb-true, ltb-false, le-leb, lt-ltb}
+use borrow.Author.Tests.{eqb-true, eqb-false, leb-true, leb-false, ltb-true, ltb-false, le-leb, lt-ltb, le-ltb}
 use lib.Dec.{eqb, leb, ltb}
 use lib.ListN.{get_or}
+use Rattle.std.specs.Prelude.{Option, None, Some}
 use Rattle.task_set.specs.Bounded.{first}
 use Rattle.task_set.proofs.Truth.{by_test, off, or_cases, or_left_off}
 use Rattle.task_set.proofs.Search.{first_is, first_unique}
@@ -19,7 +20,7 @@ use Rattle.proposal_theory.proofs.Units.{slot_type, as_slot, slot_fits, fit_unit
 use Rattle.proposal_theory.specs.Proposals.{most_slots, type_of, fits, finish_on, earliest, unit_of}
 use Rattle.proposal_theory.specs.Units.{slot}
 use Rattle.proposal_choice.specs.declared.Best.{Best}
-use Rattle.proposal_choice.specs.Steps.{Soonest, latest, Placeable, never, Reached, BestBelow}
+use Rattle.proposal_choice.specs.Steps.{Soonest, latest, first_slot, Placeable, never, Reached, BestBelow}
 
 -- ---- the earliest start on the units of a type
 
@@ -151,6 +152,13 @@ module _ {units wcet : List ℕ} {t : ℕ} {free : List ℕ} {held : ℕ} (soon 
 
 -- ---- the first unit of the best type that is free in time
 
+module _ (free : List ℕ) (k n start : ℕ) where
+  pub slot_found : {u : ℕ} → u < n → u ≡ first n (λ v. leb (from free k v) start) → Some (slot k u) ≡ first_slot free k n start
+  slot_found {u} l e = rw (← e, lt-ltb u n l) refl
+
+  pub slot_missing : n ≡ first n (λ v. leb (from free k v) start) → None ≡ first_slot free k n start
+  slot_missing e = rw (← e, le-ltb n n (le_refl n)) refl
+
 module _ {units wcet : List ℕ} {t : ℕ} {free : List ℕ} {held k finish : ℕ} (p : Placeable units wcet t free)
     (r : Reached units wcet t free held k finish) where
   abbrev start : ℕ
@@ -204,14 +212,18 @@ module _ {units wcet : List ℕ} {t : ℕ} {free : List ℕ} {held k finish : �
   in_array : slot k unit < most_slots
   in_array = omega (arith, unit_few, r.low)
 
+  -- there is such a unit
+  pub found : {time : ℕ} → time ≡ time_of wcet t k → {o : Option ℕ} → o ≡ first_slot free k n (finish - time) → o ≡ Some (slot k unit)
+  found e f = f ∙ rw (e, lt-ltb unit n unit_low) refl
+
   -- it is the unit that the task takes
-  pub chosen : {i time : ℕ}
+  pub chosen : {i time : ℕ} {o : Option ℕ}
       → ((m : ℕ) → type_of m < most_types → fits units wcet t m ≡ true → finish ≤ finish_on wcet t free held m)
-      → time ≡ time_of wcet t k → i ≡ slot k (first n (λ u. leb (from free k u) (finish - time)))
+      → time ≡ time_of wcet t k → o ≡ first_slot free k n (finish - time) → o ≡ Some i
       → (i ≡ unit_of units wcet t free held) × (finish ≡ finish_on wcet t free held i)
   unfolding unit_of
-  chosen {i} least e f =
-      let q = subst (λ (x : ℕ). i ≡ slot k (first n (λ u. leb (from free k u) (finish - x)))) e f in (
+  chosen {i} least e f g =
+      let q : i ≡ slot k unit = let h : Some i ≡ Some (slot k unit) = sym g ∙ found e f in cc in (
         q ∙ first_unique most_slots (earliest units wcet t free held) (slot k unit) (record {
           searched = record {
             within = le_of_lt in_array;

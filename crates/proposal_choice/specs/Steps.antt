@@ -1,5 +1,6 @@
 -- What inner functions rely on and compute. No promise of a public function cites it. Assumes nothing.
-use Rattle.std.specs.Prelude.{◌≡◌, true, List, ℕ, ◌+◌, ◌-◌, ◌≤◌, ◌<◌, max, get_or}
+use Rattle.std.specs.Prelude.{◌≡◌, true, cond, List, ℕ, Option, None, Some, ◌+◌, ◌-◌, ◌≤◌, ◌<◌, max, leb, ltb, get_or}
+use Rattle.task_set.specs.Bounded.{first}
 use Rattle.plan.specs.Rules.{most_types, most_units, longest_time, last_instant, time_of, usable}
 use Rattle.proposal_theory.specs.Proposals.{type_of, fits, finish_on}
 use Rattle.proposal_theory.specs.Units.{slot}
@@ -9,6 +10,12 @@ use Rattle.proposal_choice.specs.declared.Best.{Best}
 pub record Soonest (free : List ℕ) (k n held start : ℕ) : Type 0 where
   pub least : (u : ℕ) → u < n → start ≤ max (get_or free (slot k u) 0) held
   pub reached : (u : ℕ) × (u < n) × (start ≡ max (get_or free (slot k u) 0) held)
+
+-- the first of n units of type k that is free at an instant
+abbrev pub first_slot : List ℕ → ℕ → ℕ → ℕ → Option ℕ
+first_slot free k n start =
+    let u = first n (λ v. leb (get_or free (slot k v) 0) start) in
+    cond (ltb u n) (Some (slot k u)) None
 
 -- no instant is later when a task is placed
 abbrev pub latest : ℕ

@@ -4,9 +4,9 @@
 
 use plan::Constraint;
 
-// The number and the place of a refusal, or 0 and 0; the constraint, all zeros where refused.
+// What C is handed: the number and the place of a refusal, or 0 and 0; the constraint, all zeros where refused.
 #[repr(C)]
-#[derive(Drop)]
+#[derive(Clone, Copy)]
 pub struct Proposal {
     pub number: u32,
     pub place: usize,

@@ -17,8 +17,7 @@ use Rattle.plan.specs.Rules.{most_types, most_tasks, usable, plan_ok}
 use Rattle.plan.proofs.Kept.{few_tasks, known_predecessor, short_time, some_type}
 use Rattle.ranks_arrows.specs.Arrows.{arrow, circle}
 use Rattle.ranks_arrows.specs.Steps.{Known}
-use Rattle.ranks.specs.declared.Ranking.{Ranking}
-use Rattle.ranks.specs.Ranks.{types_of, own_rank, rank_of, ranks_of, ranking_of, no_ranks, ranked}
+use Rattle.ranks.specs.Ranks.{types_of, own_rank, rank_of, ranks_of, Ranking, ranking_of, no_ranks, ranked}
 use Rattle.ranks.specs.Steps.{Ready}
 use Rattle.ranks.proofs.Equation.{most_own, own_most, rank_most}
 

@@ -2,9 +2,9 @@
 use mathlib.Core.Path.{◌≡◌, refl, sym, ap, ap₂, ◌∙◌, subst}
 use mathlib.Core.Bool.{Bool, true, cond, ◌&&◌, not, and-true, and-false}
 use mathlib.Core.List.{List}
-use mathlib.Core.Logic.{◌⊎◌, inl, inr, ⊎_elim}
+use mathlib.Core.Logic.{◌⊎◌, inl, inr, ⊎_elim, ∥∥₁_elim, ∥∥₁_map}
 use Prim.Native.Nat.{ℕ, ◌+◌, ◌*◌, ◌-◌, ◌^◌, ◌≤◌, ◌<◌, zero-le, max}
-use native.Mathlib.Nat.{lt_of_lt_of_le, le_refl, le_antisymm, max-eq_left, max-eq_right, le_of_lt}
+use native.Mathlib.Nat.{lt_of_lt_of_le, le_refl, le_antisymm, ℕ_set}
 use native.Mathlib.Omega.{arith}
 use borrow.Author.Tests.{eq-eqb, ne_eqb, eqb-true, eqb-false, ltb-true, lt-ltb}
 use lib.Dec.{eqb, ltb}
@@ -140,13 +140,19 @@ module _ {wcet predecessors : List ℕ} {tasks : ℕ} where
         each = λ u. ⊎_elim (λ e. ⊎_elim (λ d. inl (e ∙ d)) (λ d. inr (d.0, e ∙ d.1)) (f.each u)) (λ e. inr e) (g.each u);
       }
 
-  pub noted_more : {a b : List ℕ} → Noted wcet predecessors tasks a → Grown wcet predecessors tasks a b
-      → Noted wcet predecessors tasks b
-  noted_more f g =
-      record {
-        long = g.long ∙ f.long;
-        each = λ u. ⊎_elim (λ e. ⊎_elim (λ d. inl (e ∙ d)) (λ d. inr (d.0, e ∙ d.1)) (f.each u)) (λ e. inr e) (g.each u);
-      }
+  pub noted_long : {table : List ℕ} → ∥ Noted wcet predecessors tasks table ∥₁ → length table ≡ most_tasks
+  noted_long h = ∥∥₁_elim h (ℕ_set _ _) (λ f. f.long)
+
+  pub noted_more : {a b : List ℕ} → ∥ Noted wcet predecessors tasks a ∥₁ → Grown wcet predecessors tasks a b
+      → ∥ Noted wcet predecessors tasks b ∥₁
+  noted_more {a} {b} h g = ∥∥₁_map h more
+    where
+      more : Noted wcet predecessors tasks a → Noted wcet predecessors tasks b
+      more f =
+          record {
+            long = g.long ∙ f.long;
+            each = λ u. ⊎_elim (λ e. ⊎_elim (λ d. inl (e ∙ d)) (λ d. inr (d.0, e ∙ d.1)) (f.each u)) (λ e. inr e) (g.each u);
+          }
 
   -- what is known stays known
   pub known_more : {a b : List ℕ} (u : ℕ) → Grown wcet predecessors tasks a b → get_or a u 0 ≡ rank_of wcet predecessors tasks u
@@ -167,12 +173,12 @@ module _ {wcet predecessors : List ℕ} {tasks : ℕ} where
       here u f = let q = eqb-true u t f in rw q (inr (l, get_or-set_same table t r 0 h ∙ e))
 
   -- a rank that is known
-  pub found_known : {table : List ℕ} {t r : ℕ} → Noted wcet predecessors tasks table → r ≡ get_or table t 0 → (r ≡ 0 → ⊥)
+  pub found_known : {table : List ℕ} {t r : ℕ} → ∥ Noted wcet predecessors tasks table ∥₁ → r ≡ get_or table t 0 → (r ≡ 0 → ⊥)
       → RankFound wcet predecessors tasks t table table r
   found_known {table} {t} {r} h e some = record { is = e ∙ known; noted = known; grown = grown_none }
     where
       known : get_or table t 0 ≡ rank_of wcet predecessors tasks t
-      known = ⊎_elim (λ d. absurd (some (e ∙ d))) (λ d. d.1) (h.each t)
+      known = ∥∥₁_elim h (ℕ_set _ _) (λ f. ⊎_elim (λ d. absurd (some (e ∙ d))) (λ d. d.1) (f.each t))
 
   -- no member
   pub greatest_empty : {table : List ℕ} {s : ℕ} → s ≡ 0 → GreatestFound wcet predecessors tasks s table table 0
@@ -192,11 +198,8 @@ module _ {wcet predecessors : List ℕ} {tasks : ℕ} where
         ∙ ap₂ max (ap (rank_of wcet predecessors tasks) (sym is-lowest) ∙ sym f.is)
         (ap (greatest_in wcet predecessors tasks) (sym is-left) ∙ sym g.is)
 
-    pub greatest_others : one < most → GreatestFound wcet predecessors tasks s a c most
-    greatest_others l = record { is = sym (both ∙ max-eq_right (le_of_lt l)); grown = grown_more f.grown g.grown }
-
-    pub greatest_member : most ≤ one → GreatestFound wcet predecessors tasks s a c one
-    greatest_member l = record { is = sym (both ∙ max-eq_left l); grown = grown_more f.grown g.grown }
+    pub greatest_both : GreatestFound wcet predecessors tasks s a c (max one most)
+    greatest_both = record { is = sym both; grown = grown_more f.grown g.grown }
 
 -- a rank that is computed and noted
 module _ {wcet predecessors : List ℕ} {tasks : ℕ} (ready : Ready wcet predecessors tasks) {a b : List ℕ} {t s own most : ℕ}
@@ -222,7 +225,7 @@ module _ {wcet predecessors : List ℕ} {tasks : ℕ} (ready : Ready wcet predec
       small : {r : ℕ} → r ≤ tasks * most_own → tasks ≤ most_tasks → r < 2 ^ 64
       small a b = omega arith
 
-  pub found_now : Noted wcet predecessors tasks a → RankFound wcet predecessors tasks t a (set b t (own + most)) (own + most)
+  pub found_now : ∥ Noted wcet predecessors tasks a ∥₁ → RankFound wcet predecessors tasks t a (set b t (own + most)) (own + most)
   found_now m =
       record {
         is = computed;
@@ -231,4 +234,4 @@ module _ {wcet predecessors : List ℕ} {tasks : ℕ} (ready : Ready wcet predec
       }
     where
       inside : t < length b
-      inside = subst (λ (x : ℕ). t < x) (sym (g.grown.long ∙ m.long)) (lt_of_lt_of_le l ready.known.few)
+      inside = subst (λ (x : ℕ). t < x) (sym (g.grown.long ∙ noted_long m)) (lt_of_lt_of_le l ready.known.few)

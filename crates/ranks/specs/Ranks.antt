@@ -1,11 +1,12 @@
 -- What a task's rank is (document 02, 8), and 8 and 23, which refuse a plan without ranks. Assumes nothing.
-use Rattle.std.specs.Prelude.{Bool, cond, not, List, ℕ, zero, suc, ◌+◌, ◌*◌, ◌/◌, ltb, replicate}
+use Rattle.std.specs.Prelude.{Bool, cond, not, List, Result, Ok, Err, ℕ, zero, suc, ◌+◌, ◌*◌, ◌/◌, ltb, replicate}
 use Rattle.task_set.specs.Bounded.{count, tabulate}
 use Rattle.plan.specs.declared.Plan.{Plan}
 use Rattle.plan.specs.Rules.{most_types, most_tasks, time_of, usable, plan_ok}
 use Rattle.dispatch_theory.specs.Sums.{sum, greatest}
 use Rattle.ranks_arrows.specs.Arrows.{arrow, circle}
-use Rattle.ranks.specs.declared.Ranking.{Ranking}
+use Rattle.ranks.specs.declared.Unranked.{Unranked}
+use Rattle.ranks.specs.declared.Unranked.TheVariants.{Faulty, Circular}
 
 -- "so ranks are whole": a multiple of each number of types from 1 to 8
 abbrev pub parts : ℕ
@@ -36,6 +37,11 @@ rank_of wcet predecessors tasks = rank_by (own_rank wcet) (arrow predecessors) t
 unfoldable pub ranks_of : Plan → List ℕ
 ranks_of p = tabulate most_tasks (λ t. cond (ltb t p.tasks) (rank_of p.wcet p.predecessors p.tasks t) 0)
 
+-- the number of a refusal or 0, and the ranks or zeros
+pub record Ranking : Type 0 where
+  pub number : ℕ
+  pub ranks : List ℕ
+
 abbrev pub ranking_of : ℕ → List ℕ → Ranking
 ranking_of number ranks = record { number = number; ranks = ranks }
 
@@ -48,3 +54,13 @@ ranked p =
     cond (not (plan_ok p)) (no_ranks 8)
     (cond (circle (arrow p.predecessors) p.tasks) (no_ranks 23)
     (ranking_of 0 (ranks_of p)))
+
+-- the number of each reason why a plan has no ranks
+abbrev pub number_of : Unranked → ℕ
+number_of Faulty = 8
+number_of Circular = 23
+
+-- an answer, by number
+abbrev pub ranking : Result (List ℕ) Unranked → Ranking
+ranking (Ok ranks) = ranking_of 0 ranks
+ranking (Err reason) = no_ranks (number_of reason)

@@ -2,39 +2,42 @@
 #![tactic(auto)]
 
 ghost use Rattle.std.specs.Prelude.{◌≡◌};
-ghost use Rattle.ranks.specs.Ranks.{no_ranks, ranked};
+ghost use Rattle.ranks.specs.Ranks.{number_of, ranked, ranking};
 
 use plan::{MOST_TASKS, Plan};
 
 mod table;
 
-// 0 and the rank of each task, with zeros past the last task; or 8 or 23 and zeros.
-#[derive(Drop)]
-pub struct Ranking {
-    pub number: u32,
-    pub ranks: [u64; MOST_TASKS],
+// Why a plan has no ranks.
+#[derive(Clone, Copy, PartialEq, Eq)]
+pub enum Unranked {
+    // It breaks a rule.
+    Faulty,
+    // Arrows lead from a task back to itself.
+    Circular,
 }
 
-fn refused(number: u32) -> Ranking
-    ensures { result ≡ no_ranks number }
-{
-    Ranking {
-        number,
-        ranks: [0; MOST_TASKS],
+impl Unranked {
+    // The number of the refusal.
+    pub fn number(self) -> u32
+        ensures { result ≡ number_of self }
+    {
+        match self {
+            Unranked::Faulty => 8,
+            Unranked::Circular => 23,
+        }
     }
 }
 
-// The rank of each task of a plan. 8 where the plan breaks a rule, and 23 exactly where arrows lead from a task back to itself.
-pub fn ranks(p: Plan) -> Ranking
-    ensures { result ≡ ranked p }
+// The rank of each task of a plan, with zeros past the last task.
+pub fn ranks(p: &Plan) -> Result<[u64; MOST_TASKS], Unranked>
+    ensures { ranking result ≡ ranked p.now }
 {
     if !plan_rules::plan_ok(p) {
-        return refused(8);
+        return Err(Unranked::Faulty);
     }
-    let tasks = p.tasks;
-    if ranks_arrows::leads_back(&p.predecessors, tasks) {
-        return refused(23);
+    if ranks_arrows::leads_back(&p.predecessors, p.tasks) {
+        return Err(Unranked::Circular);
     }
-    let ranks = table::table_of(&p.wcet, &p.predecessors, tasks);
-    Ranking { number: 0, ranks }
+    Ok(table::table_of(p))
 }

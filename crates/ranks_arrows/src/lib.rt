@@ -17,13 +17,11 @@ pub fn successors(predecessors: &[u64; MOST_TASKS], tasks: usize, t: usize) -> u
     let from = task_set::inserted(0, t);
     let mut s: u64 = 0;
     let mut bit: u64 = 1;
-    let mut u = 0;
-    while u < tasks {
+    for u in 0..tasks {
         if task_set::intersects(from, plan::predecessors_of(predecessors, u)) {
-            s = s | bit;
+            s |= bit;
         }
-        bit = bit << 1;
-        u += 1;
+        bit <<= 1;
     }
     s
 }
@@ -33,12 +31,10 @@ fn all_joined(predecessors: &[u64; MOST_TASKS], tasks: usize, s: u64) -> u64
     ensures { result ≡ joined predecessors.now tasks s }
 {
     let mut out = s;
-    let mut t = 0;
-    while t < tasks {
+    for t in 0..tasks {
         if task_set::is_subset(plan::predecessors_of(predecessors, t), out) {
             out = task_set::inserted(out, t);
         }
-        t += 1;
     }
     out
 }
@@ -49,10 +45,11 @@ pub fn leads_back(predecessors: &[u64; MOST_TASKS], tasks: usize) -> bool
     ensures { result ≡ circle (arrow predecessors.now) tasks }
 {
     let mut s: u64 = 0;
-    let mut more = all_joined(predecessors, tasks, s);
-    while more != s {
+    loop {
+        let more = all_joined(predecessors, tasks, s);
+        if more == s {
+            return (task_set::member_count(s) as usize) < tasks;
+        }
         s = more;
-        more = all_joined(predecessors, tasks, s);
     }
-    (task_set::member_count(s) as usize) < tasks
 }

@@ -1,27 +1,27 @@
 -- Ticks for the reports of a list, one after the other: what is left gives the whole. Assumes nothing.
 use mathlib.Core.Path.{◌≡◌, refl, sym, ap, ◌∙◌}
 use mathlib.Core.List.{List, [], ◌∷◌, map}
-use Prim.Native.Nat.{ℕ, suc, ◌+◌, ◌≤◌, ◌<◌, min}
+use Prim.Native.Nat.{ℕ, suc, ◌+◌, ◌≤◌, ◌<◌}
 use native.Mathlib.Nat.{zero-add}
 use native.Mathlib.Numerals.{add-one}
 use native.Mathlib.Omega.{arith}
-use borrow.Author.Tests.{ltb-false, eqb-false, eq-eqb, ne_eqb}
-use lib.Dec.{eqb, ltb}
+use borrow.Author.Tests.{eqb-true, eqb-false, eq-eqb, ne_eqb, lt-ltb, le-ltb}
+use lib.Dec.{eqb}
 use lib.ListN.{length, get_or, set, drop, length-set, length-map, drop_of_length-le}
 use lib.Seq.{drop-cons, sets-eq, sets as stores}
 use Rattle.task_set.proofs.Truth.{by_test}
 use Rattle.plan.specs.declared.Plan.{Plan}
 use Rattle.plan.specs.declared.Constraint.{Constraint}
 use Rattle.plan.specs.declared.Verdict.{Verdict}
-use Rattle.plan.specs.Refusals.{refused, first_refusal, verdict}
+use Rattle.plan.specs.Refusals.{refused, no_refusal, first_refusal, verdict}
 use Rattle.plan.specs.Buffers.{fitted, at_start}
 use Rattle.runs.specs.Journal.{Answer}
 use Rattle.live.specs.declared.State.{State}
 use Rattle.live.specs.declared.Ticked.{Ticked}
-use Rattle.live.specs.States.{no_state}
 use Rattle.live.specs.Ticks.{started, ticked}
 use Rattle.replay.specs.Lists.{state_after, said_after}
-use Rattle.replay.specs.Replays.{replay_verdict, replayed, room_in, Replays}
+use Rattle.replay.specs.declared.Replayed.{Replayed}
+use Rattle.replay.specs.Replays.{replay_verdict, refusal, replayed, room_in, Replays}
 use Rattle.replay.specs.Steps.{after_each}
 use Rattle.replay.proofs.Claims.{claim}
 
@@ -83,27 +83,35 @@ module _ (reports numbers₀ places₀ sets₀ : List ℕ) (first : State) where
 
 -- ---- replay
 
--- what 19 passes has room
-pub fitted_room : (v : Verdict) (needed room : ℕ) {w : Verdict} → w ≡ fitted v needed room → w.number ≡ 0 → needed ≤ room
-unfolding first_refusal
-fitted_room v needed room e ok =
-    by_test (ltb room needed)
-    (λ f. absurd (by_test (eqb v.number 0)
-    (λ g. let z : ◌≡◌ {A = ℕ} 19 0 = rw (e, g, f) at ok in omega arith) (λ g. eqb-false _ 0 g (rw (e, g) at ok))))
-    (ltb-false room needed)
-
 -- start refuses as the check does, and then 19 is tried
-pub judged : (p : Plan) (c : Constraint) {t : Ticked} {v : Verdict} (n x y z : ℕ) {short room : ℕ} → t ≡ started p c
-    → short ≡ min y z → room ≡ min x short → v ≡ fitted (refused t.number t.place) n room
-    → v ≡ fitted (verdict p c) n (min x (min y z))
-unfolding started first_refusal
-judged p c n x y z e f g h = rw (h, g, f, e) (by_test (eqb (verdict p c).number 0) (λ q. rw q) (λ q. rw (q, q)))
+module _ (p : Plan) (c : Constraint) {t : Ticked} (e : t ≡ started p c) where
+  refused_first : (t.number ≡ 0 → ⊥) → refused t.number t.place ≡ verdict p c
+  unfolding started
+  refused_first f =
+      by_test (eqb (verdict p c).number 0) (λ q. absurd (f (rw (e, q) refl))) (λ q. rw (e, q) refl)
+
+  taken_first : t.number ≡ 0 → (verdict p c).number ≡ 0
+  unfolding started
+  taken_first f =
+      by_test (eqb (verdict p c).number 0) (eqb-true _ 0)
+      (λ q. absurd (eqb-false _ 0 q (rw (e, q) at f)))
+
+  pub says_first : (needed room : ℕ) → (t.number ≡ 0 → ⊥) → refused t.number t.place ≡ fitted (verdict p c) needed room
+  unfolding first_refusal
+  says_first needed room f = let g = refused_first f in g ∙ rw (← g, ne_eqb t.number 0 f) refl
+
+  pub says_19 : (needed room : ℕ) → t.number ≡ 0 → room < needed → refused 19 needed ≡ fitted (verdict p c) needed room
+  unfolding first_refusal
+  says_19 needed room f l = rw (eq-eqb (verdict p c).number 0 (taken_first f), lt-ltb room needed l) refl
+
+  pub says_none : (needed room : ℕ) → t.number ≡ 0 → needed ≤ room → no_refusal ≡ fitted (verdict p c) needed room
+  unfolding first_refusal
+  says_none needed room f l = rw (eq-eqb (verdict p c).number 0 (taken_first f), le-ltb room needed l) refl
 
 module _ (p : Plan) (c : Constraint) (reports numbers places sets : List ℕ) {v : Verdict}
     (e : v ≡ replay_verdict p c reports (room_in numbers places sets)) where
-  pub replays_refused : (v.number ≡ 0 → ⊥) → {s : State} → s ≡ no_state
-      → Replays p c reports numbers places sets (record { number = v.number; place = v.place; started = 0; state = s })
-      numbers places sets
+  pub replays_refused : (v.number ≡ 0 → ⊥) → {r : Replayed} → r ≡ refusal v.number v.place
+      → Replays p c reports numbers places sets r numbers places sets
   unfolding replayed
   replays_refused f none =
       let g = rw e at (ne_eqb v.number 0 f) in

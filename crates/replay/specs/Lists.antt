@@ -1,4 +1,4 @@
--- A list of ticks, and the one claim about it (demand 3; document 01, "The bench book"). Assumes nothing.
+-- A list of ticks, and the one claim about it (document 01, "The bench book"). Assumes nothing.
 use Rattle.std.specs.Prelude.{◌≡◌, true, List, [], ◌∷◌, ℕ, ◌+◌, ◌≤◌, ◌<◌}
 use Rattle.plan.specs.declared.Plan.{Plan}
 use Rattle.plan.specs.declared.Constraint.{Constraint}
@@ -25,7 +25,7 @@ unfoldable pub said_after : State → List ℕ → List Answer
 said_after s [] = []
 said_after s (report ∷ rest) = said (ticked s report) ∷ said_after (ticked s report).state rest
 
--- what demand 3 says of a list of reports on a plan and a constraint that start accepted
+-- what holds of every list of reports on a plan and a constraint that start accepted
 pub record Faithful (p : Plan) (c : Constraint) (reports : List ℕ) : Type 0 where
   -- "The answers of start and of each tick are the book's"
   pub opened : said (started p c) ≡ opening_answer p c

@@ -1,4 +1,4 @@
--- Start and a tick for each report of a lent list, each answer written to lent buffers (demand 3). Assumes nothing.
+-- Start and a tick for each report of a lent list, each answer written to lent buffers. Assumes nothing.
 use Rattle.std.specs.Prelude.{◌≡◌, cond, List, map, ℕ, min, eqb, length}
 use Rattle.plan.specs.declared.Plan.{Plan}
 use Rattle.plan.specs.declared.Constraint.{Constraint}
@@ -15,14 +15,18 @@ use Rattle.replay.specs.Lists.{state_after, said_after, Faithful}
 abbrev pub replay_verdict : Plan → Constraint → List ℕ → ℕ → Verdict
 replay_verdict p c reports room = fitted (verdict p c) (length reports) room
 
--- start's set and the state after the list; "the rest of a refused answer is zeros"
+-- "the rest of a refused answer is zeros"
+abbrev pub refusal : ℕ → ℕ → Replayed
+refusal number place = record { number = number; place = place; started = 0; state = no_state }
+
+-- start's set and the state after the list, or a refusal
 unfoldable pub replayed : Plan → Constraint → List ℕ → ℕ → Replayed
 replayed p c reports room =
     let v = replay_verdict p c reports room in
     let opened = started p c in
     cond (eqb v.number 0)
     record { number = 0; place = 0; started = opened.started; state = state_after opened.state reports }
-    record { number = v.number; place = v.place; started = 0; state = no_state }
+    (refusal v.number v.place)
 
 -- a buffer afterwards: one part of each tick's answer
 abbrev pub written : (Answer → ℕ) → Plan → Constraint → List ℕ → ℕ → List ℕ → List ℕ

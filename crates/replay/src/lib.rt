@@ -1,18 +1,15 @@
-// Start, and then a tick for each report of a list (demand 3; document 01, "The bench book").
+// Start, and then a tick for each report of a list: the answers are those of the bench book (document 01, "The bench book").
 #![tactic(auto)]
 
-ghost use Rattle.std.specs.Prelude.{◌≡◌, ◌≤◌, min, length};
-ghost use Rattle.plan.specs.Refusals.{refused as refusedBy};
-ghost use Rattle.plan.specs.Buffers.{fitted as fittedBy};
-ghost use Rattle.replay.specs.Replays.{Replays, room_in};
+ghost use Rattle.std.specs.Prelude.{◌≡◌, ◌≤◌, length};
+ghost use Rattle.replay.specs.Replays.{Replays, refusal, room_in};
 ghost use Rattle.replay.specs.Steps.{after_each};
 
 use live::{State, no_state, start};
-use live_report::{refused, unless};
-use plan::{Constraint, Plan, Verdict};
+use plan::{Constraint, Plan};
 
-// What replay answers: a refusal's number and place, or 0 and 0; the set of tasks that start started; the state after the
-// list.
+// What replay answers, as C has it: a refusal's number and place, or 0 and 0; the set of tasks that start started; the state
+// after the list.
 #[repr(C)]
 #[derive(Drop)]
 pub struct Replayed {
@@ -22,9 +19,10 @@ pub struct Replayed {
     pub state: State,
 }
 
-// A tick for each report, on the state that the one before gave back; each answer goes to the front of the buffers.
+// A tick for each report, on the state that the one before gave back; each answer goes to the front of the buffers. They are
+// indexed: three zips would be no plainer.
 fn tick_each(
-    first: State,
+    mut state: State,
     reports: &[u64],
     numbers: &mut [u32],
     places: &mut [usize],
@@ -32,34 +30,29 @@ fn tick_each(
 ) -> State
     requires { length reports.now ≤ room_in numbers.old places.old sets.old }
     ensures { (result, (numbers.new, (places.new, sets.new)))
-        ≡ after_each first reports.now numbers.old places.old sets.old }
+        ≡ after_each state reports.now numbers.old places.old sets.old }
 {
-    let mut state = first;
-    let mut i = 0;
-    while i < reports.len() {
-        let t = state.tick(reports[i]);
+    for (i, &report) in reports.iter().enumerate() {
+        let t = state.tick(report);
         numbers[i] = t.number;
         places[i] = t.place;
         sets[i] = t.started;
         state = t.state;
-        i += 1;
     }
     state
 }
 
-fn least(a: usize, b: usize) -> usize
-    ensures { result ≡ min a b }
+// A refused answer: the rest is zeros.
+fn refusal(number: u32, place: usize) -> Replayed
+    ensures { result ≡ refusal number place }
 {
-    if a < b { a } else { b }
-}
-
-// The refusals that come first, then 19.
-fn fitted(number: u32, place: usize, needed: usize, room: usize) -> Verdict
-    ensures { result ≡ fittedBy (refusedBy number place) needed room }
-{
-    let none = refused(0, 0);
-    let short = unless(room < needed, 19, needed, none);
-    unless(number != 0, number, place, short)
+    let state = no_state();
+    Replayed {
+        number,
+        place,
+        started: 0,
+        state,
+    }
 }
 
 // Start, then a tick for each report, whatever the answers. Each report needs an entry in each buffer.
@@ -75,16 +68,14 @@ pub fn replay(
         result numbers.new places.new sets.new }
 {
     let t = start(p, c);
-    let room = least(numbers.len(), least(places.len(), sets.len()));
-    let v = fitted(t.number, t.place, reports.len(), room);
-    if v.number != 0 {
-        let state = no_state();
-        return Replayed {
-            number: v.number,
-            place: v.place,
-            started: 0,
-            state,
-        };
+    if t.number != 0 {
+        return refusal(t.number, t.place);
+    }
+    let needed = reports.len();
+    let room = numbers.len().min(places.len().min(sets.len()));
+    let short = room < needed;
+    if short {
+        return refusal(19, needed);
     }
     let state = tick_each(t.state, reports, numbers, places, sets);
     Replayed {

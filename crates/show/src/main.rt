@@ -3,7 +3,7 @@
 // times as a chart.
 #![tactic(auto)]
 
-use show_lines::lines;
+use plan_text::Answer;
 use show_picture::picture;
 use show_reasons::why;
 use show_refusals::explain;
@@ -12,49 +12,30 @@ use std::io;
 use std::io::{Read, Write};
 use std::rt::Env;
 
-// What is shown of a plan that the check takes: the picture, or the table.
-fn show_plan(out: &mut Vec<u8>, text: &[u8], as_picture: bool) -> Result<(), AllocError> {
+// The plan and the constraint of a text that is read, if the check takes them.
+fn accepted(text: &[u8]) -> Option<Answer> {
     let a = plan_text::read(text);
     if a.number != 0 {
-        return Ok(());
+        return None;
     }
-    let p = a.plan;
-    let c = a.constraint;
-    let v = plan_check::check(p, c);
-    if v.number != 0 {
-        return Ok(());
-    }
-    if as_picture {
-        picture::show(out, p, c)
-    } else {
-        why::show(out, p, c)
-    }
+    plan_check::checked(&a.plan, &a.constraint).ok()?;
+    Some(a)
 }
 
-// Whether a word is this one.
-fn is_word(word: &[u8], wanted: &[u8]) -> bool {
-    let mut i = 0;
-    while i < wanted.len() {
-        if lines::byte(word, i) != lines::byte(wanted, i) {
-            return false;
-        }
-        i += 1;
-    }
-    word.len() == wanted.len()
-}
-
-// Nothing at any other word.
+// Nothing at any other word, and no picture or table of a plan that is not accepted.
 fn show(out: &mut Vec<u8>, word: &[u8], text: &[u8]) -> Result<(), AllocError> {
-    if is_word(word, b"explain") {
-        explain::show(out, text, false)
-    } else if is_word(word, b"unproposed") {
-        explain::show(out, text, true)
-    } else if is_word(word, b"why") {
-        show_plan(out, text, false)
-    } else if is_word(word, b"picture") {
-        show_plan(out, text, true)
-    } else {
-        Ok(())
+    match word {
+        b"explain" => explain::show(out, text),
+        b"unproposed" => explain::show_unproposed(out, text),
+        b"why" => match accepted(text) {
+            Some(a) => why::show(out, a.plan, a.constraint),
+            None => Ok(()),
+        },
+        b"picture" => match accepted(text) {
+            Some(a) => picture::show(out, a.plan, a.constraint),
+            None => Ok(()),
+        },
+        _ => Ok(()),
     }
 }
 

@@ -1,27 +1,23 @@
 // Refusals 8 to 10 of a text that could be read.
-use plan::{MOST_TASKS, MOST_TYPES};
+use plan::{Constraint, MOST_TASKS, MOST_TYPES, Plan};
 use show_lines::lines;
 use show_words::{get, names, put};
 use std::alloc::AllocError;
 
+fn has_line(text: &[u8], letter: u8, t: usize) -> bool {
+    lines::find(text, letter, &[t as u64]).is_some()
+}
+
 // The tasks of the plan without a line of this letter.
 fn without(text: &[u8], letter: u8, tasks: usize) -> u64 {
-    let mut set: u64 = 0;
-    let mut t = 0;
-    while t < MOST_TASKS {
-        if (t < tasks) & (lines::find_one(text, letter, t as u64) == 0) {
-            set = task_set::inserted(set, t);
-        }
-        t += 1;
-    }
-    set
+    task_set::set_of(tasks, |t| !has_line(text, letter, t))
 }
 
 // The tasks with a T line and no C line.
 pub fn unlisted(text: &[u8]) -> u64 {
-    task_set::difference(
-        without(text, b'C', MOST_TASKS),
-        without(text, b'T', MOST_TASKS),
+    task_set::set_of(
+        MOST_TASKS,
+        |t| has_line(text, b'T', t) && !has_line(text, b'C', t),
     )
 }
 
@@ -36,7 +32,7 @@ fn have_or_has(out: &mut Vec<u8>, set: u64) -> Result<(), AllocError> {
 // A plan that was read breaks a rule only by its tasks: there are none, or one is left out.
 pub fn no_plan(out: &mut Vec<u8>, text: &[u8], tasks: usize) -> Result<(), AllocError> {
     put::text(out, b"refused 8: ")?;
-    if text.len() == 0 {
+    if text.is_empty() {
         return put::text(out, b"the text is empty\n");
     }
     if tasks == 0 {
@@ -52,7 +48,7 @@ pub fn no_plan(out: &mut Vec<u8>, text: &[u8], tasks: usize) -> Result<(), Alloc
         b"",
     )?;
     put_whether_from_1(out, set)?;
-    lines::quote(out, text, lines::find_one(text, b'T', tasks as u64 - 1))
+    lines::quote_first(out, text, b'T', &[tasks as u64 - 1])
 }
 
 // Only task 0 is missing where tasks are counted from 1.
@@ -64,73 +60,44 @@ fn put_whether_from_1(out: &mut Vec<u8>, set: u64) -> Result<(), AllocError> {
     }
 }
 
-// What a missing C line needs: its type, and behind which tasks it stands.
-fn put_needs(
-    out: &mut Vec<u8>,
-    text: &[u8],
-    set: u64,
-    before: u64,
-    t: usize,
-) -> Result<(), AllocError> {
-    if task_set::contains(set, t) {
-        put::words(out, b"  task ", t as u64, b" can use ")?;
-        names::named(out, b"type ", b"types ", usable(text, t))?;
-        if before != 0 {
-            put::text(out, b" and stands behind ")?;
-            names::tasks(out, before)?;
-        }
-        put::end_line(out)?;
+// What the missing C line of a task needs: its type, and behind which tasks it stands.
+fn put_needs(out: &mut Vec<u8>, text: &[u8], before: u64, t: usize) -> Result<(), AllocError> {
+    put::words(out, b"  task ", t as u64, b" can use ")?;
+    names::named(out, b"type ", b"types ", usable(text, t))?;
+    if before != 0 {
+        put::text(out, b" and stands behind ")?;
+        names::tasks(out, before)?;
     }
-    Ok(())
-}
-
-fn put_all_needs(
-    out: &mut Vec<u8>,
-    text: &[u8],
-    predecessors: &[u64; MOST_TASKS],
-    set: u64,
-) -> Result<(), AllocError> {
-    let mut t = 0;
-    while t < MOST_TASKS {
-        put_needs(out, text, set, plan::predecessors_of(predecessors, t), t)?;
-        t += 1;
-    }
-    Ok(())
+    put::end_line(out)
 }
 
 // No task of a text that was read stands in the order twice, so some stand in it nowhere.
-pub fn missing_choice(
-    out: &mut Vec<u8>,
-    text: &[u8],
-    predecessors: &[u64; MOST_TASKS],
-    tasks: usize,
-) -> Result<(), AllocError> {
+pub fn missing_choice(out: &mut Vec<u8>, text: &[u8], p: &Plan) -> Result<(), AllocError> {
     put::text(out, b"refused 9: ")?;
-    let set = without(text, b'C', tasks);
-    if task_set::member_count(set) as usize == tasks {
-        put::text(
+    let set = without(text, b'C', p.tasks);
+    if task_set::member_count(set) as usize == p.tasks {
+        return put::text(
             out,
             b"there are no C lines; the order has one for each task\n",
-        )?;
-        return Ok(());
+        );
     }
     names::tasks(out, set)?;
     have_or_has(out, set)?;
     put::text(out, b" no C line; the order has one for each task\n")?;
-    put_all_needs(out, text, predecessors, set)
+    for (t, &before) in p.predecessors.iter().enumerate() {
+        if task_set::contains(set, t) {
+            put_needs(out, text, before, t)?;
+        }
+    }
+    Ok(())
 }
 
 // The types on which a task can run.
 fn usable(text: &[u8], t: usize) -> u64 {
-    let mut set: u64 = 0;
-    let mut k = 0;
-    while k < MOST_TYPES {
-        if lines::find_two(text, b'T', t as u64, k as u64) != 0 {
-            set = task_set::inserted(set, k);
-        }
-        k += 1;
-    }
-    set
+    task_set::set_of(
+        MOST_TYPES,
+        |k| lines::find(text, b'T', &[t as u64, k as u64]).is_some(),
+    )
 }
 
 // Where an entry of the order stands: its position, counted from 0, and its line.
@@ -140,26 +107,27 @@ pub fn at_position(
     position: usize,
     place: usize,
 ) -> Result<(), AllocError> {
-    put::words(out, b"refused ", number as u64, b" at position ")?;
+    put::words(out, b"refused ", u64::from(number), b" at position ")?;
     put::words(out, b"", position as u64, b" of the order, line ")?;
     put::words(out, b"", place as u64, b": ")
 }
 
-pub fn unusable_type<'a>(
+pub fn unusable_type(
     out: &mut Vec<u8>,
     text: &[u8],
-    order: &'a [usize; MOST_TASKS],
-    chosen: &'a [usize; MOST_TASKS],
+    c: &Constraint,
     position: usize,
 ) -> Result<(), AllocError> {
-    let t = get::entry(order, position);
-    let place = lines::find_one(text, b'C', t as u64);
+    let t = get::entry(&c.order, position);
+    let Some(place) = lines::find(text, b'C', &[t as u64]) else {
+        return Ok(());
+    };
     at_position(out, 10, position, place)?;
     put::words(out, b"task ", t as u64, b" has no T line for type ")?;
     put::words(
         out,
         b"",
-        get::entry(chosen, position) as u64,
+        get::entry(&c.chosen, position) as u64,
         b"; it can use ",
     )?;
     names::named(out, b"type ", b"types ", usable(text, t))?;

@@ -1,9 +1,9 @@
 // Refusals 3 to 7: what is wrong with a line that has one of the six forms.
 use crate::checks;
 use plan::{LATEST_DEADLINE, LATEST_RELEASE, LONGEST_TIME, MOST_TASKS, MOST_TYPES, MOST_UNITS};
-use plan_text::{Line, LineForm};
+use plan_text::Line;
 use show_lines::lines;
-use show_words::{cells, names, put};
+use show_words::{names, put};
 use std::alloc::AllocError;
 
 // Nothing where the number is in its range; a word of advice where it is above.
@@ -18,9 +18,9 @@ fn range(
     if (n < least) | (most < n) {
         put::text(out, b"  ")?;
         put::text(out, name)?;
-        put::words(out, b" ", n as u64, b" is not one of ")?;
-        put::words(out, b"", least as u64, b" to ")?;
-        put::number(out, most as u64)?;
+        put::words(out, b" ", u64::from(n), b" is not one of ")?;
+        put::words(out, b"", u64::from(least), b" to ")?;
+        put::number(out, u64::from(most))?;
         if most < n {
             put::text(out, above)?;
         }
@@ -115,30 +115,18 @@ fn odds(out: &mut Vec<u8>, line: Line) -> Result<(), AllocError> {
             put::words(
                 out,
                 b"the worst time, ",
-                w as u64,
+                u64::from(w),
                 b", is below the best time",
             )?;
-            put::words(out, b", ", b as u64, b"; are they exchanged?\n")
+            put::words(out, b", ", u64::from(b), b"; are they exchanged?\n")
         }
         Line::Arrow(from, _) => put::words(
             out,
             b"the arrow leads from task ",
-            from as u64,
+            u64::from(from),
             b" to itself; take it out\n",
         ),
         _ => Ok(()),
-    }
-}
-
-// The kind of line that comes after this one; 0 after the last.
-fn next_kind(letter: u8) -> u8 {
-    match letter {
-        b'U' => b'T',
-        b'T' => b'A',
-        b'A' => b'D',
-        b'D' => b'N',
-        b'N' => b'C',
-        _ => 0,
     }
 }
 
@@ -146,37 +134,31 @@ fn put_order(out: &mut Vec<u8>) -> Result<(), AllocError> {
     put::text(out, b": the order is U, T, A, D, N, C\n")
 }
 
-// No line has more kinds after it.
-const LATER_KINDS: usize = 5;
+// The letters of the lines, in the order in which they stand in a text.
+const KINDS: [u8; 6] = *b"UTADNC";
 
-// The first line of a later kind above this one. All lines above it are in order.
-fn first_later(text: &[u8], letter: u8, place: usize) -> usize {
-    let mut kind = letter;
-    let mut i = 0;
-    while i < LATER_KINDS {
-        kind = next_kind(kind);
-        let found = lines::find_letter(text, kind);
-        if (found != 0) & (found < place) {
-            return found;
+// The kind and the place of the first line of a later kind above this one. All lines above it are in order.
+fn first_later(text: &[u8], letter: u8, place: usize) -> Option<(u8, usize)> {
+    for &kind in KINDS.iter().skip_while(|&&kind| kind != letter).skip(1) {
+        match lines::find(text, kind, &[]) {
+            Some(found) if found < place => return Some((kind, found)),
+            _ => {}
         }
-        i += 1;
     }
-    0
-}
-
-fn put_letter(out: &mut Vec<u8>, text: &[u8], place: usize) -> Result<(), AllocError> {
-    put::text(out, lines::part(lines::line(text, place), 0, 1))
+    None
 }
 
 // A U line behind a C line may be the first of a second plan.
-fn late(out: &mut Vec<u8>, text: &[u8], place: usize) -> Result<(), AllocError> {
-    let letter = lines::byte(lines::line(text, place), 0);
-    let later = first_later(text, letter, place);
-    let choice = lines::find_letter(text, b'C');
-    put_letter(out, text, place)?;
+fn late(out: &mut Vec<u8>, text: &[u8], place: usize, line: Line) -> Result<(), AllocError> {
+    let (letter, _) = lines::front(line);
+    let Some((kind, later)) = first_later(text, letter, place) else {
+        return Ok(());
+    };
+    let has_choice = lines::find(text, b'C', &[]).is_some_and(|choice| choice < place);
+    put::text(out, &[letter])?;
     put::text(out, b" stands behind ")?;
-    put_letter(out, text, later)?;
-    if (letter == b'U') & (0 < choice) & (choice < place) {
+    put::text(out, &[kind])?;
+    if (letter == b'U') & has_choice {
         put::text(
             out,
             b": does a second plan begin here? A text has one plan. If not, move",
@@ -195,31 +177,31 @@ fn absent(
     text: &[u8],
     place: usize,
     name: &[u8],
-    letter: &[u8],
+    letter: u8,
     n: u32,
 ) -> Result<(), AllocError> {
-    let found = lines::find_one(text, lines::byte(letter, 0), n as u64);
-    if (found != 0) & (found < place) {
+    let found = lines::find(text, letter, &[u64::from(n)]);
+    if found.is_some_and(|found| found < place) {
         return Ok(());
     }
     put::text(out, b"  ")?;
     put::text(out, name)?;
-    put::words(out, b" ", n as u64, b" has no ")?;
-    put::text(out, letter)?;
-    if found != 0 {
-        put::words(out, b" line above; it is below, line ", found as u64, b"")?;
-        put_order(out)
-    } else if lines::find_letter(text, lines::byte(letter, 0)) != 0 {
-        put::text(out, b" line\n")
-    } else {
-        put::text(out, b" line; the text has none at all\n")
+    put::words(out, b" ", u64::from(n), b" has no ")?;
+    put::text(out, &[letter])?;
+    match found {
+        Some(found) => {
+            put::words(out, b" line above; it is below, line ", found as u64, b"")?;
+            put_order(out)
+        }
+        None if lines::find(text, letter, &[]).is_some() => put::text(out, b" line\n"),
+        None => put::text(out, b" line; the text has none at all\n"),
     }
 }
 
 // A line that names one task, or the first of the two that an arrow names.
 fn unknown_task(out: &mut Vec<u8>, text: &[u8], place: usize, t: u32) -> Result<(), AllocError> {
     put::text(out, b"the line names a task that has no T line above\n")?;
-    absent(out, text, place, b"task", b"T", t)
+    absent(out, text, place, b"task", b'T', t)
 }
 
 fn unknown_tasks(
@@ -230,28 +212,28 @@ fn unknown_tasks(
     to: u32,
 ) -> Result<(), AllocError> {
     unknown_task(out, text, place, from)?;
-    absent(out, text, place, b"task", b"T", to)
+    absent(out, text, place, b"task", b'T', to)
 }
 
 // Of a U line all lines before are U lines, so that this one should be of the type after theirs; or it is there already.
 fn next_type(out: &mut Vec<u8>, text: &[u8], place: usize, k: u32) -> Result<(), AllocError> {
-    let earlier = lines::find_one(text, b'U', k as u64);
-    if earlier < place {
-        put::words(
-            out,
-            b"type ",
-            k as u64,
-            b" already has its U line: see line ",
-        )?;
-        put::words(out, b"", earlier as u64, b"\n")?;
-        lines::quote(out, text, earlier)
-    } else {
-        put::words(
+    match lines::find(text, b'U', &[u64::from(k)]) {
+        Some(earlier) if earlier < place => {
+            put::words(
+                out,
+                b"type ",
+                u64::from(k),
+                b" already has its U line: see line ",
+            )?;
+            put::words(out, b"", earlier as u64, b"\n")?;
+            lines::quote(out, text, earlier)
+        }
+        _ => put::words(
             out,
             b"the U line of type ",
-            cells::less(place as u64, 1),
+            place.saturating_sub(1) as u64,
             b" is missing above, or this type is wrong: U lines give the types in order, from 0\n",
-        )
+        ),
     }
 }
 
@@ -260,7 +242,7 @@ fn unknown(out: &mut Vec<u8>, text: &[u8], place: usize, line: Line) -> Result<(
         Line::Units(k, _) => next_type(out, text, place, k),
         Line::Times(_, k, _, _) => {
             put::text(out, b"the line names a type that has no U line above\n")?;
-            absent(out, text, place, b"type", b"U", k)
+            absent(out, text, place, b"type", b'U', k)
         }
         Line::Arrow(from, to) => unknown_tasks(out, text, place, from, to),
         Line::Deadline(t, _) => unknown_task(out, text, place, t),
@@ -270,19 +252,16 @@ fn unknown(out: &mut Vec<u8>, text: &[u8], place: usize, line: Line) -> Result<(
 }
 
 // The first line that says the same, of the numbers that may not come twice.
-fn earlier(text: &[u8], line: Line) -> usize {
+fn earlier(text: &[u8], line: Line) -> Option<usize> {
+    let (letter, [first, second]) = lines::front(line);
     match line {
-        Line::Units(k, _) => lines::find_one(text, b'U', k as u64),
-        Line::Times(t, k, _, _) => lines::find_two(text, b'T', t as u64, k as u64),
-        Line::Arrow(from, to) => lines::find_two(text, b'A', from as u64, to as u64),
-        Line::Deadline(t, _) => lines::find_one(text, b'D', t as u64),
-        Line::Release(t, _) => lines::find_one(text, b'N', t as u64),
-        Line::Choice(t, _) => lines::find_one(text, b'C', t as u64),
+        Line::Times(_, _, _, _) | Line::Arrow(_, _) => lines::find(text, letter, &[first, second]),
+        _ => lines::find(text, letter, &[first]),
     }
 }
 
 fn put_already(out: &mut Vec<u8>, t: u32, what: &[u8]) -> Result<(), AllocError> {
-    put::words(out, b"task ", t as u64, b" already ")?;
+    put::words(out, b"task ", u64::from(t), b" already ")?;
     put::text(out, what)
 }
 
@@ -290,7 +269,7 @@ fn put_twice(out: &mut Vec<u8>, line: Line) -> Result<(), AllocError> {
     match line {
         Line::Times(t, k, _, _) => {
             put_already(out, t, b"has times on type ")?;
-            put::number(out, k as u64)
+            put::number(out, u64::from(k))
         }
         Line::Arrow(_, _) => put::text(out, b"this arrow is already there"),
         Line::Deadline(t, _) => put_already(out, t, b"has a deadline"),
@@ -314,13 +293,16 @@ fn put_unlisted(out: &mut Vec<u8>, text: &[u8], line: Line) -> Result<(), AllocE
 }
 
 fn repeated(out: &mut Vec<u8>, text: &[u8], line: Line) -> Result<(), AllocError> {
-    let place = earlier(text, line);
+    let Some(place) = earlier(text, line) else {
+        return Ok(());
+    };
     put_twice(out, line)?;
     put::words(out, b": see line ", place as u64, b"\n")?;
     put_unlisted(out, text, line)?;
     lines::quote(out, text, place)
 }
 
+// A number, since what a text is read into is a C struct that has it.
 fn fault(
     out: &mut Vec<u8>,
     text: &[u8],
@@ -331,16 +313,16 @@ fn fault(
     match number {
         3 => ranges(out, line),
         4 => odds(out, line),
-        5 => late(out, text, place),
+        5 => late(out, text, place, line),
         6 => unknown(out, text, place, line),
         _ => repeated(out, text, line),
     }
 }
 
 pub fn show(out: &mut Vec<u8>, text: &[u8], number: u32, place: usize) -> Result<(), AllocError> {
-    put::words(out, b"refused ", number as u64, b" at line ")?;
+    put::words(out, b"refused ", u64::from(number), b" at line ")?;
     put::words(out, b"", place as u64, b": ")?;
-    if let LineForm::Of(line) = plan_text::read_line(lines::line(text, place)) {
+    if let Some(line) = plan_text::read_line(lines::line(text, place)) {
         fault(out, text, number, place, line)?;
     }
     lines::quote(out, text, place)

@@ -1,9 +1,9 @@
 // The lanes of a picture, one for each unit of each type: lane 8 k + u is unit u of type k.
-use plan::{MOST_TASKS, MOST_TYPES};
-use show_words::cells;
-use show_words::cells::{place, set_entry, set_place, units_of};
+use plan::{Constraint, MOST_TASKS, MOST_TYPES, Plan};
+use show_words::get;
 use show_words::get::entry;
 
+// The crate of runs, which has the same constant, is not below this one.
 const MOST_UNITS: usize = plan::MOST_UNITS as usize;
 
 // No plan has more lanes. It is as many as a plan may have tasks, so that a set of tasks can be one of lanes.
@@ -18,18 +18,17 @@ pub fn unit_of(lane: usize) -> usize {
 }
 
 fn lane_of(k: usize, u: usize) -> usize {
-    if MOST_TYPES <= k {
-        return MOST_LANES;
-    }
-    if MOST_UNITS <= u {
-        return MOST_LANES;
-    }
-    k * MOST_UNITS + u
+    k.saturating_mul(MOST_UNITS).saturating_add(u)
+}
+
+// How many units a type has; none past the last type.
+pub fn units_of(p: &Plan, k: usize) -> usize {
+    entry(&p.units, k) as usize
 }
 
 // Whether the bench has the unit of a lane.
-pub fn is_there(units: &[u32; MOST_TYPES], lane: usize) -> bool {
-    unit_of(lane) < units_of(units, kind_of(lane))
+pub fn is_there(p: &Plan, lane: usize) -> bool {
+    unit_of(lane) < units_of(p, kind_of(lane))
 }
 
 pub fn is_first(lane: usize) -> bool {
@@ -37,73 +36,42 @@ pub fn is_first(lane: usize) -> bool {
 }
 
 // How many lanes there are.
-pub fn count(units: &[u32; MOST_TYPES]) -> u64 {
-    let mut found = 0;
-    let mut i = 0;
-    while i < MOST_LANES {
-        found = counted(found, is_there(units, i));
-        i += 1;
-    }
-    found
-}
-
-fn counted(found: u64, more: bool) -> u64 {
-    if more {
-        return cells::plus(found, 1);
-    }
-    found
+pub fn count(p: &Plan) -> usize {
+    (0..MOST_LANES).filter(|&i| is_there(p, i)).count()
 }
 
 // The lane of the lowest unit of type k that is free at an instant, when each lane is free from its instant on. By the rules a task
 // starts only when there is one.
-fn free_lane(free: &[u64; MOST_LANES], k: usize, count: usize, start: u64) -> usize {
-    let mut u = 0;
-    while u < count {
-        if place(free, lane_of(k, u)) <= start {
-            return lane_of(k, u);
-        }
-        u += 1;
-    }
-    lane_of(k, 0)
+fn free_lane(free: &[u32; MOST_LANES], k: usize, count: usize, start: u32) -> usize {
+    (0..count)
+        .map(|u| lane_of(k, u))
+        .find(|&lane| entry(free, lane) <= start)
+        .unwrap_or(lane_of(k, 0))
 }
 
 // The lane of each task, by task number: tasks start in the order of the constraint, each on the lowest unit of its type that is free.
-pub fn of_tasks<'a>(
-    units: &'a [u32; MOST_TYPES],
-    order: &'a [usize; MOST_TASKS],
-    chosen: &'a [usize; MOST_TASKS],
-    starts: &'a [u32; MOST_TASKS],
-    finishes: &'a [u32; MOST_TASKS],
-    n: usize,
+// This crate does not know a simulation, so it is lent the two arrays of one.
+pub fn of_tasks(
+    p: &Plan,
+    c: &Constraint,
+    starts: &[u32; MOST_TASKS],
+    finishes: &[u32; MOST_TASKS],
 ) -> [usize; MOST_TASKS] {
     let mut lanes = [0; MOST_TASKS];
     let mut free = [0; MOST_LANES];
-    let mut i = 0;
-    while i < n {
-        let t = entry(order, i);
-        let k = entry(chosen, i);
-        let lane = free_lane(&free, k, units_of(units, k), cells::instant(starts, t));
-        set_entry(&mut lanes, t, lane);
-        set_place(&mut free, lane, cells::instant(finishes, t));
-        i += 1;
+    for (&t, &k) in c.order.iter().zip(c.chosen.iter()).take(p.tasks) {
+        let lane = free_lane(&free, k, units_of(p, k), entry(starts, t));
+        get::set(&mut lanes, t, lane);
+        get::set(&mut free, lane, entry(finishes, t));
     }
     lanes
 }
 
 // The lanes of some tasks, as a set.
-pub fn of_set(lanes: &[usize; MOST_TASKS], tasks: u64, n: usize) -> u64 {
-    let mut found = 0;
-    let mut t = 0;
-    while t < n {
-        found = with_lane(found, task_set::contains(tasks, t), entry(lanes, t));
-        t += 1;
-    }
-    found
-}
-
-fn with_lane(found: u64, more: bool, lane: usize) -> u64 {
-    if more {
-        return task_set::inserted(found, lane);
-    }
-    found
+pub fn of_set(lanes: &[usize; MOST_TASKS], tasks: u64) -> u64 {
+    lanes
+        .iter()
+        .enumerate()
+        .filter(|&(t, _)| task_set::contains(tasks, t))
+        .fold(0, |found, (_, &lane)| task_set::inserted(found, lane))
 }

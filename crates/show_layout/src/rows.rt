@@ -1,10 +1,10 @@
 // How the lanes lie below each other, and what is said at their left.
 use crate::scale::Size;
 use crate::{lanes, scale};
-use plan::{MOST_TASKS, MOST_TYPES};
-use show_words::cells::plus;
+use plan::{MOST_TASKS, Plan};
 use show_words::get::entry;
-use show_words::{cells, put, svg};
+use show_words::places::Heights;
+use show_words::{put, svg};
 use std::alloc::AllocError;
 
 // The row of deadlines above the bars of a lane, the row of numbers below them, and below that the row of not-before instants.
@@ -22,90 +22,74 @@ pub struct Having {
     pub brackets: u64,
 }
 
-// By lane, where it begins, where its bars do and where its row of not-before instants; and where the last one ends.
+// Where a lane begins, where its bars do and where its row of not-before instants.
+#[derive(Clone, Copy, Default)]
+pub struct Row {
+    pub top: u64,
+    pub bar: u64,
+    pub foot: u64,
+}
+
+// The rows by lane, and where the last one ends.
 #[derive(Clone, Copy)]
 pub struct Rows {
-    pub tops: [u64; lanes::MOST_LANES],
-    pub bars: [u64; lanes::MOST_LANES],
-    pub feet: [u64; lanes::MOST_LANES],
+    pub lanes: [Row; lanes::MOST_LANES],
     pub bottom: u64,
 }
 
-// What a lane has of a row's height, if it has the row.
-fn part(has: bool, height: u64) -> u64 {
-    if has {
-        return height;
+// A height, for a lane in a set that has it, and 0 for another one.
+fn part(having: u64, lane: usize, height: u64) -> u64 {
+    if task_set::contains(having, lane) {
+        height
+    } else {
+        0
     }
-    0
 }
 
-// Where the bars of a lane begin that begins at a place.
-fn bar_at(y: u64, s: Size, flagged: bool) -> u64 {
-    plus(plus(y, s.pad), part(flagged, FLAGS))
+// The row of a lane that begins at a place.
+fn row_at(y: u64, s: &Size, h: &Having, lane: usize) -> Row {
+    let bar = y
+        .saturating_add(s.pad)
+        .saturating_add(part(h.flags, lane, FLAGS));
+    let foot = bar
+        .saturating_add(s.bar)
+        .saturating_add(part(h.numbers, lane, NUMBERS));
+    Row { top: y, bar, foot }
 }
 
-// Where the row of not-before instants begins below bars that begin at a place.
-fn foot_at(bar: u64, s: Size, numbered: bool) -> u64 {
-    plus(plus(bar, s.bar), part(numbered, NUMBERS))
-}
-
-// Where a lane ends; one that is not there, where it begins.
-fn end_at(y: u64, s: Size, foot: u64, is_there: bool, bracketed: bool) -> u64 {
-    if is_there {
-        return plus(plus(foot, s.pad), part(bracketed, BRACKETS));
-    }
-    y
-}
-
-// The rows of all lanes.
-pub fn laid(units: &[u32; MOST_TYPES], s: Size, h: Having) -> Rows {
-    let mut tops = [0; lanes::MOST_LANES];
-    let mut bars = [0; lanes::MOST_LANES];
-    let mut feet = [0; lanes::MOST_LANES];
+// The rows of all lanes. A lane that is not there ends where it begins.
+pub fn laid(p: &Plan, s: &Size, h: &Having) -> Rows {
+    let mut rows = [Row::default(); lanes::MOST_LANES];
     let mut y = s.top;
-    let mut i = 0;
-    while i < lanes::MOST_LANES {
-        let bar = bar_at(y, s, task_set::contains(h.flags, i));
-        let foot = foot_at(bar, s, task_set::contains(h.numbers, i));
-        cells::set_place(&mut tops, i, y);
-        cells::set_place(&mut bars, i, bar);
-        cells::set_place(&mut feet, i, foot);
-        y = end_at(
-            y,
-            s,
-            foot,
-            lanes::is_there(units, i),
-            task_set::contains(h.brackets, i),
-        );
-        i += 1;
+    for (i, row) in rows.iter_mut().enumerate() {
+        *row = row_at(y, s, h, i);
+        if lanes::is_there(p, i) {
+            y = row
+                .foot
+                .saturating_add(s.pad)
+                .saturating_add(part(h.brackets, i, BRACKETS));
+        }
     }
     Rows {
-        tops,
-        bars,
-        feet,
+        lanes: rows,
         bottom: y,
     }
 }
 
-// Where the bar of each task begins, or the row below it, by task number.
-pub fn by_task<'a>(
-    lanes: &'a [usize; MOST_TASKS],
-    rows: &'a [u64; lanes::MOST_LANES],
-    n: usize,
-) -> [u64; MOST_TASKS] {
-    let mut found = [0; MOST_TASKS];
-    let mut t = 0;
-    while t < n {
-        cells::set_place(&mut found, t, cells::place(rows, entry(lanes, t)));
-        t += 1;
+// Where the bar of each task begins and the row below it.
+pub fn by_task(lanes: &[usize; MOST_TASKS], rows: &Rows, bar: u64) -> Heights {
+    let of_tasks = lanes.map(|lane| entry(&rows.lanes, lane));
+    Heights {
+        bars: of_tasks.map(|row| row.bar),
+        feet: of_tasks.map(|row| row.foot),
+        bar,
     }
-    found
 }
 
 // The name of a lane; a type with one unit needs no number of it.
-pub fn name(out: &mut Vec<u8>, units: &[u32; MOST_TYPES], lane: usize) -> Result<(), AllocError> {
+pub fn name(out: &mut Vec<u8>, p: &Plan, lane: usize) -> Result<(), AllocError> {
     put::words(out, b"type ", lanes::kind_of(lane) as u64, b"")?;
-    if 1 < cells::units_of(units, lanes::kind_of(lane)) {
+    if 1 < lanes::units_of(p, lanes::kind_of(lane)) {
         put::words(out, b", unit ", lanes::unit_of(lane) as u64, b"")?;
     }
     Ok(())
@@ -122,45 +106,24 @@ fn upper_line(out: &mut Vec<u8>, lane: usize, y: u64) -> Result<(), AllocError> 
 
 fn lane_row(
     out: &mut Vec<u8>,
-    units: &[u32; MOST_TYPES],
+    p: &Plan,
     lane: usize,
-    y: u64,
-    bar: u64,
-    s: Size,
+    row: &Row,
+    s: &Size,
 ) -> Result<(), AllocError> {
-    if lanes::is_there(units, lane) {
-        upper_line(out, lane, y)?;
-        svg::begin_words(
-            out,
-            b"lane",
-            scale::LEFT - 100,
-            plus(bar, plus(s.bar / 2, 42)),
-        )?;
-        name(out, units, lane)?;
-        svg::end_words(out)?;
-    }
-    Ok(())
+    let middle = row.bar.saturating_add(s.bar / 2);
+    upper_line(out, lane, row.top)?;
+    svg::begin_words(out, b"lane", scale::LEFT - 100, middle.saturating_add(42))?;
+    name(out, p, lane)?;
+    svg::end_words(out)
 }
 
 // The lanes themselves, without their bars.
-pub fn draw<'a>(
-    out: &mut Vec<u8>,
-    units: &'a [u32; MOST_TYPES],
-    tops: &'a [u64; lanes::MOST_LANES],
-    bars: &'a [u64; lanes::MOST_LANES],
-    s: Size,
-) -> Result<(), AllocError> {
-    let mut i = 0;
-    while i < lanes::MOST_LANES {
-        lane_row(
-            out,
-            units,
-            i,
-            cells::place(tops, i),
-            cells::place(bars, i),
-            s,
-        )?;
-        i += 1;
+pub fn draw(out: &mut Vec<u8>, p: &Plan, rows: &Rows, s: &Size) -> Result<(), AllocError> {
+    for (lane, row) in rows.lanes.iter().enumerate() {
+        if lanes::is_there(p, lane) {
+            lane_row(out, p, lane, row, s)?;
+        }
     }
     Ok(())
 }

@@ -1,10 +1,11 @@
 // The bars of the tasks, with their numbers, deadlines and not-before instants.
-use plan::{MOST_TASKS, MOST_TYPES};
+use plan::{MOST_TASKS, Plan};
 use show_layout::rows;
-use show_words::cells::{instant, larger, less, middle, place, plus};
 use show_words::get::entry;
+use show_words::places::{Heights, Places, by_digits, middle};
 use show_words::{arrows, names, put, svg};
 use std::alloc::AllocError;
+use task_set::set_of;
 
 // The tasks with a narrow bar, with a deadline, with one that they miss, and with one beyond the axis; and those with a not-before
 // instant above 0.
@@ -42,42 +43,39 @@ fn say_waits(out: &mut Vec<u8>, predecessors: u64) -> Result<(), AllocError> {
     Ok(())
 }
 
-fn say_release(out: &mut Vec<u8>, release: u64) -> Result<(), AllocError> {
+fn say_release(out: &mut Vec<u8>, release: u32) -> Result<(), AllocError> {
     if release != 0 {
-        put::words(out, b"; not before ", release, b"")?;
+        put::words(out, b"; not before ", u64::from(release), b"")?;
     }
     Ok(())
 }
 
-fn say_deadline(out: &mut Vec<u8>, deadline: u64, finish: u64) -> Result<(), AllocError> {
+fn say_deadline(out: &mut Vec<u8>, deadline: u32, finish: u32) -> Result<(), AllocError> {
     if deadline != 0 {
-        put::words(out, b"; deadline ", deadline, b"")?;
-    }
-    if (deadline != 0) & (deadline < finish) {
-        put::words(out, b", late by ", less(finish, deadline), b"")?;
+        put::words(out, b"; deadline ", u64::from(deadline), b"")?;
+        if deadline < finish {
+            put::words(out, b", late by ", u64::from(finish - deadline), b"")?;
+        }
     }
     Ok(())
 }
 
-// What is said under the pointer.
-pub fn say<'a>(
+// What is said under the pointer of a task that runs on a lane from an instant to another one.
+pub fn say(
     out: &mut Vec<u8>,
-    units: &'a [u32; MOST_TYPES],
-    lanes: &'a [usize; MOST_TASKS],
-    starts: &'a [u32; MOST_TASKS],
-    finishes: &'a [u32; MOST_TASKS],
-    releases: &'a [u32; MOST_TASKS],
-    deadlines: &'a [u32; MOST_TASKS],
-    predecessors: u64,
+    p: &Plan,
     t: usize,
+    lane: usize,
+    start: u32,
+    finish: u32,
 ) -> Result<(), AllocError> {
     put::words(out, b"<title>task ", t as u64, b", ")?;
-    rows::name(out, units, entry(lanes, t))?;
-    put::words(out, b", ", instant(starts, t), b" to ")?;
-    put::number(out, instant(finishes, t))?;
-    say_waits(out, predecessors)?;
-    say_release(out, instant(releases, t))?;
-    say_deadline(out, instant(deadlines, t), instant(finishes, t))?;
+    rows::name(out, p, lane)?;
+    put::words(out, b", ", u64::from(start), b" to ")?;
+    put::number(out, u64::from(finish))?;
+    say_waits(out, entry(&p.predecessors, t))?;
+    say_release(out, entry(&p.releases, t))?;
+    say_deadline(out, entry(&p.deadlines, t), finish)?;
     put::text(out, b"</title>\n")
 }
 
@@ -85,149 +83,144 @@ pub fn begin_group(out: &mut Vec<u8>) -> Result<(), AllocError> {
     put::text(out, b"<g class=\"task\">")
 }
 
-pub fn bar_of<'a>(
-    lefts: &'a [u64; MOST_TASKS],
-    rights: &'a [u64; MOST_TASKS],
-    ys: &'a [u64; MOST_TASKS],
-    numbers: &'a [u64; MOST_TASKS],
-    dues: &'a [u64; MOST_TASKS],
-    flags: &'a [u64; MOST_TASKS],
-    feet: &'a [u64; MOST_TASKS],
-    releases: &'a [u64; MOST_TASKS],
-    tags: &'a [u64; MOST_TASKS],
-    height: u64,
-    t: usize,
-) -> Bar {
+pub fn bar_of(a: &Places, h: &Heights, t: usize) -> Bar {
     Bar {
         task: t,
-        left: place(lefts, t),
-        right: place(rights, t),
-        y: place(ys, t),
-        height,
-        number: place(numbers, t),
-        due: place(dues, t),
-        flag: place(flags, t),
-        foot: place(feet, t),
-        release: place(releases, t),
-        tag: place(tags, t),
+        left: entry(&a.lefts, t),
+        right: entry(&a.rights, t),
+        y: entry(&h.bars, t),
+        height: h.bar,
+        number: entry(&a.numbers, t),
+        due: entry(&a.dues, t),
+        flag: entry(&a.flags, t),
+        foot: entry(&h.feet, t),
+        release: entry(&a.releases, t),
+        tag: entry(&a.tags, t),
     }
 }
 
 // Whether a width has room for the number of a task in small digits, and in large ones.
 fn fits_small(width: u64, t: usize) -> bool {
-    if t < 10 {
-        return 75 <= width;
-    }
-    130 <= width
+    by_digits(t, 75, 130) <= width
 }
 
 fn fits_large(width: u64, t: usize) -> bool {
-    if t < 10 {
-        return 110 <= width;
-    }
-    185 <= width
-}
-
-fn with_narrow(found: u64, width: u64, t: usize) -> u64 {
-    if fits_small(width, t) {
-        return found;
-    }
-    task_set::inserted(found, t)
+    by_digits(t, 110, 185) <= width
 }
 
 // The tasks whose bars are too narrow for their numbers.
-pub fn narrow<'a>(lefts: &'a [u64; MOST_TASKS], rights: &'a [u64; MOST_TASKS], n: usize) -> u64 {
-    let mut found = 0;
-    let mut t = 0;
-    while t < n {
-        found = with_narrow(found, less(place(rights, t), place(lefts, t)), t);
-        t += 1;
-    }
-    found
+pub fn narrow(lefts: &[u64; MOST_TASKS], rights: &[u64; MOST_TASKS], n: usize) -> u64 {
+    set_of(n, |t| {
+        !fits_small(entry(rights, t).saturating_sub(entry(lefts, t)), t)
+    })
 }
 
-fn number_inside(out: &mut Vec<u8>, b: Bar) -> Result<(), AllocError> {
+fn number_inside(out: &mut Vec<u8>, b: &Bar) -> Result<(), AllocError> {
     let x = middle(b.left, b.right);
-    let y = plus(b.y, b.height / 2);
-    if fits_large(less(b.right, b.left), b.task) {
-        svg::number(out, b"inside", x, plus(y, 43), b.task as u64)
+    let y = b.y.saturating_add(b.height / 2);
+    if fits_large(b.right.saturating_sub(b.left), b.task) {
+        svg::number(out, b"inside", x, y.saturating_add(43), b.task as u64)
     } else {
-        svg::number(out, b"inside small", x, plus(y, 35), b.task as u64)
+        svg::number(out, b"inside small", x, y.saturating_add(35), b.task as u64)
     }
 }
 
 // The number of a bar that has no room for it, below it, with a line to it.
-fn number_below(out: &mut Vec<u8>, b: Bar) -> Result<(), AllocError> {
-    let bottom = plus(b.y, b.height);
+fn number_below(out: &mut Vec<u8>, b: &Bar) -> Result<(), AllocError> {
+    let bottom = b.y.saturating_add(b.height);
     svg::line(
         out,
         b"lead",
         middle(b.left, b.right),
         bottom,
         b.number,
-        plus(bottom, 65),
+        bottom.saturating_add(65),
     )?;
-    svg::number(out, b"below", b.number, plus(bottom, 150), b.task as u64)
+    svg::number(
+        out,
+        b"below",
+        b.number,
+        bottom.saturating_add(150),
+        b.task as u64,
+    )
 }
 
 // The part of the bar after the deadline; and a line from the deadline to the finish, to be seen under the pointer.
-fn draw_late(out: &mut Vec<u8>, b: Bar) -> Result<(), AllocError> {
-    let from = larger(b.left, b.due);
-    let y = less(b.y, 40);
+fn draw_late(out: &mut Vec<u8>, b: &Bar) -> Result<(), AllocError> {
+    let from = b.left.max(b.due);
+    let y = b.y.saturating_sub(40);
     svg::rect(
         out,
         b"late",
         from,
         b.y,
-        larger(less(b.right, from), 1),
+        b.right.saturating_sub(from).max(1),
         b.height,
     )?;
     svg::line(out, b"over", b.due, y, b.right, y)
 }
 
 // The mark of the deadline.
-fn draw_flag(out: &mut Vec<u8>, b: Bar, s: Sets) -> Result<(), AllocError> {
-    let y = less(b.y, 10);
+fn draw_flag(out: &mut Vec<u8>, b: &Bar, s: &Sets) -> Result<(), AllocError> {
+    let y = b.y.saturating_sub(10);
     if task_set::contains(s.late, b.task) {
-        return svg::flag(out, b"flag", b.due, y);
-    }
-    if task_set::contains(s.beyond, b.task) {
-        svg::pointer(out, b"flag met", b.due, less(y, 38))
+        svg::flag(out, b"flag", b.due, y)
+    } else if task_set::contains(s.beyond, b.task) {
+        svg::pointer(out, b"flag met", b.due, y.saturating_sub(38))
     } else {
         svg::flag(out, b"flag met", b.due, y)
     }
 }
 
 // The mark of the deadline, and the task's number above it.
-fn draw_deadline(out: &mut Vec<u8>, b: Bar, s: Sets) -> Result<(), AllocError> {
+fn draw_deadline(out: &mut Vec<u8>, b: &Bar, s: &Sets) -> Result<(), AllocError> {
     draw_flag(out, b, s)?;
-    svg::line(out, b"lead", b.flag, less(b.y, 140), b.due, less(b.y, 85))?;
-    svg::number(out, b"flagged", b.flag, less(b.y, 150), b.task as u64)
+    svg::line(
+        out,
+        b"lead",
+        b.flag,
+        b.y.saturating_sub(140),
+        b.due,
+        b.y.saturating_sub(85),
+    )?;
+    svg::number(
+        out,
+        b"flagged",
+        b.flag,
+        b.y.saturating_sub(150),
+        b.task as u64,
+    )
 }
 
 // The mark of the not-before instant below the bar, and the task's number below it.
-fn draw_release(out: &mut Vec<u8>, b: Bar) -> Result<(), AllocError> {
-    svg::bracket(out, b"release", b.release, plus(b.foot, 50))?;
+fn draw_release(out: &mut Vec<u8>, b: &Bar) -> Result<(), AllocError> {
+    svg::bracket(out, b"release", b.release, b.foot.saturating_add(50))?;
     svg::line(
         out,
         b"lead",
         b.release,
-        plus(b.foot, 125),
+        b.foot.saturating_add(125),
         b.tag,
-        plus(b.foot, 165),
+        b.foot.saturating_add(165),
     )?;
-    svg::number(out, b"released", b.tag, plus(b.foot, 245), b.task as u64)
+    svg::number(
+        out,
+        b"released",
+        b.tag,
+        b.foot.saturating_add(245),
+        b.task as u64,
+    )
 }
 
 // What is always seen of a task.
-fn draw(out: &mut Vec<u8>, b: Bar, s: Sets) -> Result<(), AllocError> {
+fn draw(out: &mut Vec<u8>, b: &Bar, s: &Sets) -> Result<(), AllocError> {
     let task = b.task;
     svg::rect(
         out,
         b"bar",
         b.left,
         b.y,
-        larger(less(b.right, b.left), 1),
+        b.right.saturating_sub(b.left).max(1),
         b.height,
     )?;
     if task_set::contains(s.late, task) {
@@ -246,50 +239,40 @@ fn draw(out: &mut Vec<u8>, b: Bar, s: Sets) -> Result<(), AllocError> {
     }
 }
 
-fn stroke(
-    out: &mut Vec<u8>,
-    class: &[u8],
-    x: u64,
-    top: u64,
-    bottom: u64,
-    is_there: bool,
-) -> Result<(), AllocError> {
-    if is_there {
-        svg::line(out, class, x, top, x, bottom)?;
-    }
-    Ok(())
+// A stroke across the lane of a task, from an upper end to a lower one.
+#[derive(Clone, Copy)]
+pub struct Stroke {
+    pub x: u64,
+    pub top: u64,
+    pub bottom: u64,
 }
 
-// Strokes across the lane at the instants of some tasks, to be drawn under the bars: each from so far above the upper end of the bar to
-// so far below another place.
-pub fn strokes<'a>(
+// The strokes of some of the first n tasks, to be drawn under the bars.
+pub fn strokes<F: Fn(usize) -> Stroke>(
     out: &mut Vec<u8>,
     class: &[u8],
-    instants: &'a [u64; MOST_TASKS],
-    ys: &'a [u64; MOST_TASKS],
-    above: u64,
-    ends: &'a [u64; MOST_TASKS],
-    below: u64,
     tasks: u64,
     n: usize,
-) -> Result<(), AllocError> {
-    let mut t = 0;
-    while t < n {
-        stroke(
-            out,
-            class,
-            place(instants, t),
-            less(place(ys, t), above),
-            plus(place(ends, t), below),
-            task_set::contains(tasks, t),
-        )?;
-        t += 1;
+    stroke: F,
+) -> Result<(), AllocError>
+    requires { F.IsAlwaysCallable stroke }
+{
+    for t in 0..n {
+        if task_set::contains(tasks, t) {
+            let s = stroke(t);
+            svg::line(out, class, s.x, s.top, s.x, s.bottom)?;
+        }
     }
     Ok(())
 }
 
 // The rest of a task's group: the arrows to it, which are seen under the pointer, and the task.
-pub fn draw_group(out: &mut Vec<u8>, b: Bar, s: Sets, predecessors: u64) -> Result<(), AllocError> {
+pub fn draw_group(
+    out: &mut Vec<u8>,
+    b: &Bar,
+    s: &Sets,
+    predecessors: u64,
+) -> Result<(), AllocError> {
     arrows::again(out, predecessors, b.task)?;
     draw(out, b, s)?;
     svg::end_group(out)

@@ -2,7 +2,6 @@
 use show_layout::scale;
 use show_marks::bars::Sets;
 use show_marks::key;
-use show_words::cells::plus;
 use show_words::{put, svg};
 use std::alloc::AllocError;
 
@@ -84,7 +83,11 @@ fn releases(out: &mut Vec<u8>) -> Result<(), AllocError> {
     put::text(out, b".release{fill:none;stroke:#064;stroke-width:16}\n")?;
     put::text(
         out,
-        b".released{font-size:100px;font-weight:bold;fill:#064;stroke:#fff;stroke-width:24;text-anchor:middle;stroke-linejoin:round;paint-order:stroke}\n",
+        b".released{font-size:100px;font-weight:bold;fill:#064;stroke:#fff;stroke-width:24;",
+    )?;
+    put::text(
+        out,
+        b"text-anchor:middle;stroke-linejoin:round;paint-order:stroke}\n",
     )
 }
 
@@ -129,9 +132,9 @@ fn size(out: &mut Vec<u8>, bottom: u64) -> Result<(), AllocError> {
 }
 
 // The beginning of the picture, down to its white ground and its heading.
-pub fn begin(out: &mut Vec<u8>, bottom: u64, s: Sets, response: u64) -> Result<(), AllocError> {
+pub fn begin(out: &mut Vec<u8>, bottom: u64, s: &Sets, response: u64) -> Result<(), AllocError> {
     put::text(out, b"<svg xmlns=\"http://www.w3.org/2000/svg\"")?;
-    size(out, plus(bottom, key::height(s)))?;
+    size(out, bottom.saturating_add(key::height(s)))?;
     put::words(
         out,
         b"<title>Timetable of worst times, R = ",

@@ -3,11 +3,8 @@
 // A predecessor is preferred to a task that freed a unit, that to the not-before instant, and that to the order; of several tasks
 // the first in the order is taken.
 // A task that only the order held starts together with the one before it, so the time of that one adds nothing to R.
-use crate::held;
-use crate::held::{Row, first_of, waits_for_none};
-use plan::{Constraint, MOST_TASKS, Plan};
+use crate::held::{Row, Run};
 use show_words::{names, put};
-use simulation::Simulation;
 use std::alloc::AllocError;
 use task_set::{contains, inserted};
 
@@ -18,82 +15,83 @@ pub struct Chain {
     idle: u64,
 }
 
-// Whether the chain begins with this task, if it is a link.
-fn is_first(r: Row) -> bool {
-    (r.start == 0) | (r.released & waits_for_none(r))
+// What a task of the chain starts at: at once, at the finish of a task that it waits for, at that of one that frees a unit, at its
+// not-before instant, or with the task just before it in the order.
+#[derive(Clone, Copy)]
+enum Cause {
+    AtOnce,
+    Awaited(usize),
+    Freed(usize),
+    NotBefore,
+    Order(usize),
 }
 
-fn by_order_alone(r: Row) -> bool {
-    r.behind & waits_for_none(r) & !r.released
-}
-
-// The task before this one in the chain. This one is not the first.
-fn cause(order: &[usize; MOST_TASKS], n: usize, r: Row) -> usize {
-    if r.awaited != 0 {
-        return first_of(order, n, r.awaited);
+fn cause_of(run: &Run, r: &Row) -> Cause {
+    if let Some(t) = run.first_of(r.awaited) {
+        Cause::Awaited(t)
+    } else if let Some(t) = run.first_of(r.freeing) {
+        Cause::Freed(t)
+    } else if r.released {
+        Cause::NotBefore
+    } else if let Some(t) = r.behind {
+        Cause::Order(t)
+    } else {
+        Cause::AtOnce
     }
-    if r.freeing != 0 {
-        return first_of(order, n, r.freeing);
-    }
-    r.previous
 }
 
-// Those whose time adds nothing, with the task before this one if the order alone joins the two.
-fn idle_with(idle: u64, r: Row) -> u64 {
-    if by_order_alone(r) {
-        return inserted(idle, r.previous);
-    }
-    idle
-}
-
-// What comes before in the chain comes before in the order, so one walk back meets all of it.
-fn traced(p: Plan, c: Constraint, s: Simulation, last: usize) -> Chain {
-    let n = p.tasks;
-    let mut members = inserted(0, last);
-    let mut idle = 0;
-    let mut i = n;
-    while 0 < i {
-        i -= 1;
-        let r = held::at(
-            &c.order,
-            &c.chosen,
-            &p.predecessors,
-            &p.units,
-            &s.starts,
-            &s.finishes,
-            &p.releases,
-            n,
-            i,
-        );
-        if contains(members, r.task) & !is_first(r) {
-            members = inserted(members, cause(&c.order, n, r));
-            idle = idle_with(idle, r);
+impl Chain {
+    // With what comes before a member.
+    fn with_cause(self, cause: Cause) -> Chain {
+        match cause {
+            Cause::AtOnce | Cause::NotBefore => self,
+            Cause::Awaited(t) | Cause::Freed(t) => Chain {
+                members: inserted(self.members, t),
+                idle: self.idle,
+            },
+            Cause::Order(t) => Chain {
+                members: inserted(self.members, t),
+                idle: inserted(self.idle, t),
+            },
         }
     }
-    Chain { members, idle }
 }
 
-fn put_cause(
-    out: &mut Vec<u8>,
-    order: &[usize; MOST_TASKS],
-    n: usize,
-    r: Row,
-) -> Result<(), AllocError> {
-    if r.start == 0 {
-        put::text(out, b"starts at once")
-    } else if r.awaited != 0 {
-        put::text(out, b"waits for ")?;
-        names::task(out, cause(order, n, r))
-    } else if r.freeing != 0 {
-        put_unit(out, r.units)?;
-        put::words(out, b" of type ", r.kind as u64, b" from ")?;
-        names::task(out, cause(order, n, r))
-    } else if r.released {
-        put::text(out, b"starts at its not-before instant")
-    } else {
-        put::text(out, b"starts with ")?;
-        names::task(out, r.previous)?;
-        put::text(out, b", which comes before it in the order")
+// The chain of the first of the tasks that finish at R. What comes before in the chain comes before in the order, so one walk back meets
+// all of it.
+pub fn of(run: &Run) -> Chain {
+    let last = run.first_of(last_tasks(run));
+    let mut chain = Chain {
+        members: last.map_or(0, |t| inserted(0, t)),
+        idle: 0,
+    };
+    for i in (0..run.plan.tasks).rev() {
+        let r = run.row(i);
+        if contains(chain.members, r.task) {
+            chain = chain.with_cause(cause_of(run, &r));
+        }
+    }
+    chain
+}
+
+fn put_cause(out: &mut Vec<u8>, r: &Row, cause: Cause) -> Result<(), AllocError> {
+    match cause {
+        Cause::AtOnce => put::text(out, b"starts at once"),
+        Cause::Awaited(t) => {
+            put::text(out, b"waits for ")?;
+            names::task(out, t)
+        }
+        Cause::Freed(t) => {
+            put_unit(out, r.units)?;
+            put::words(out, b" of type ", r.kind as u64, b" from ")?;
+            names::task(out, t)
+        }
+        Cause::NotBefore => put::text(out, b"starts at its not-before instant"),
+        Cause::Order(t) => {
+            put::text(out, b"starts with ")?;
+            names::task(out, t)?;
+            put::text(out, b", which comes before it in the order")
+        }
     }
 }
 
@@ -106,14 +104,12 @@ fn put_unit(out: &mut Vec<u8>, units: u32) -> Result<(), AllocError> {
 }
 
 // The time of a task, unless it adds nothing.
-fn added(r: Row, idle: u64) -> u32 {
+fn added(r: &Row, idle: u64) -> u32 {
     if contains(idle, r.task) {
-        return 0;
+        0
+    } else {
+        r.finish.saturating_sub(r.start)
     }
-    if r.finish < r.start {
-        return 0;
-    }
-    r.finish - r.start
 }
 
 // The numbers of a link.
@@ -124,99 +120,73 @@ fn put_columns(
     adds: u32,
     digits: usize,
 ) -> Result<(), AllocError> {
-    put::under(out, b"start", digits, start as u64)?;
-    put::under(out, b"finish", digits, finish as u64)?;
-    put::under(out, b"adds", digits, adds as u64)?;
+    put::under(out, b"start", digits, u64::from(start))?;
+    put::under(out, b"finish", digits, u64::from(finish))?;
+    put::under(out, b"adds", digits, u64::from(adds))?;
     put::text(out, b"  ")
 }
 
 // The time until the not-before instant of the first task.
-fn put_until(out: &mut Vec<u8>, r: Row, digits: usize) -> Result<(), AllocError> {
+fn put_until(out: &mut Vec<u8>, r: &Row, digits: usize) -> Result<(), AllocError> {
     put::text(out, b"   N")?;
     put_columns(out, 0, r.start, r.start, digits)?;
     names::task(out, r.task)?;
-    put::words(out, b" may not start before ", r.start as u64, b"\n")
+    put::words(out, b" may not start before ", u64::from(r.start), b"\n")
 }
 
 // A link of the chain, if the task is one.
-pub fn put_link(
-    out: &mut Vec<u8>,
-    order: &[usize; MOST_TASKS],
-    n: usize,
-    r: Row,
-    h: Chain,
-    digits: usize,
-) -> Result<(), AllocError> {
-    if !contains(h.members, r.task) {
+pub fn put_link(out: &mut Vec<u8>, run: &Run, r: &Row, chain: &Chain) -> Result<(), AllocError> {
+    if !contains(chain.members, r.task) {
         return Ok(());
     }
-    if is_first(r) & (0 < r.start) {
+    let digits = run.digits;
+    let cause = cause_of(run, r);
+    if let Cause::NotBefore = cause {
         put_until(out, r, digits)?;
     }
     put::right(out, r.task as u64, 4)?;
-    put_columns(out, r.start, r.finish, added(r, h.idle), digits)?;
-    put_cause(out, order, n, r)?;
-    put::end_line(out)
-}
-
-fn put_heads(out: &mut Vec<u8>, digits: usize) -> Result<(), AllocError> {
-    put::text(out, b"task")?;
-    put::head(out, b"start", digits)?;
-    put::head(out, b"finish", digits)?;
-    put::head(out, b"adds", digits)?;
+    put_columns(out, r.start, r.finish, added(r, chain.idle), digits)?;
+    put_cause(out, r, cause)?;
     put::end_line(out)
 }
 
 // What the links add up to; start and finish stay empty.
-fn put_sum(out: &mut Vec<u8>, response: u32, digits: usize) -> Result<(), AllocError> {
+pub fn put_sum(out: &mut Vec<u8>, run: &Run) -> Result<(), AllocError> {
     put::text(out, b"   R")?;
-    put::head(out, b"     ", digits)?;
-    put::head(out, b"      ", digits)?;
-    put::under(out, b"adds", digits, response as u64)?;
+    put::head(out, b"     ", run.digits)?;
+    put::head(out, b"      ", run.digits)?;
+    put::under(out, b"adds", run.digits, u64::from(run.simulation.response))?;
     put::end_line(out)
 }
 
+// The tasks that finish at R.
+fn last_tasks(run: &Run) -> u64 {
+    run.finishing(run.simulation.response)
+}
+
 // Whose finish R is, and of which of these tasks the chain is.
-fn put_last(
-    out: &mut Vec<u8>,
-    order: &[usize; MOST_TASKS],
-    n: usize,
-    response: u32,
-    set: u64,
-) -> Result<(), AllocError> {
-    put::words(out, b"R is ", response as u64, b", the finish of ")?;
+fn put_last(out: &mut Vec<u8>, run: &Run) -> Result<(), AllocError> {
+    let set = last_tasks(run);
+    let response = u64::from(run.simulation.response);
+    put::words(out, b"R is ", response, b", the finish of ")?;
     names::tasks(out, set)?;
     if task_set::member_count(set) == 1 {
-        put::text(out, b". The chain of tasks that makes it:\n")
-    } else {
-        put::text(out, b". The chain of tasks that makes ")?;
-        names::task(out, first_of(order, n, set))?;
-        put::text(out, b" finish then:\n")
+        return put::text(out, b". The chain of tasks that makes it:\n");
     }
+    put::text(out, b". The chain of tasks that makes ")?;
+    if let Some(t) = run.first_of(set) {
+        names::task(out, t)?;
+    }
+    put::text(out, b" finish then:\n")
 }
 
-// The tasks that finish at R.
-fn last_tasks(p: Plan, s: Simulation) -> u64 {
-    held::finishing(&s.finishes, p.tasks, s.response)
-}
-
-// The chain of the first of them in the order.
-pub fn of(p: Plan, c: Constraint, s: Simulation) -> Chain {
-    traced(p, c, s, first_of(&c.order, p.tasks, last_tasks(p, s)))
-}
-
-pub fn begin(
-    out: &mut Vec<u8>,
-    p: Plan,
-    c: Constraint,
-    s: Simulation,
-    digits: usize,
-) -> Result<(), AllocError> {
+pub fn begin(out: &mut Vec<u8>, run: &Run) -> Result<(), AllocError> {
+    let digits = run.digits;
     put::end_line(out)?;
-    put_last(out, &c.order, p.tasks, s.response, last_tasks(p, s))?;
-    put_heads(out, digits)
-}
-
-pub fn end(out: &mut Vec<u8>, s: Simulation, digits: usize) -> Result<(), AllocError> {
-    put_sum(out, s.response, digits)
+    put_last(out, run)?;
+    put::heads(
+        out,
+        &[(b"start", digits), (b"finish", digits), (b"adds", digits)],
+    )?;
+    put::end_line(out)
 }

@@ -1,10 +1,8 @@
 // `why`: what held each task until its start in the run of worst times, in the order; then the chain of tasks that makes R.
-use crate::chain::Chain;
-use crate::held::Row;
-use crate::{chain, held};
-use plan::{Constraint, MOST_TASKS, Plan};
+use crate::chain;
+use crate::held::{Row, Run};
+use plan::{Constraint, Plan};
 use show_words::{names, put};
-use simulation::Simulation;
 use std::alloc::AllocError;
 
 fn put_awaited(out: &mut Vec<u8>, set: u64) -> Result<(), AllocError> {
@@ -20,7 +18,7 @@ fn put_all(out: &mut Vec<u8>, units: u32) -> Result<(), AllocError> {
     if units == 2 {
         put::text(out, b"both")
     } else {
-        put::words(out, b"all ", units as u64, b"")
+        put::words(out, b"all ", u64::from(units), b"")
     }
 }
 
@@ -30,7 +28,7 @@ fn put_one_unit(out: &mut Vec<u8>, kind: usize, t: usize) -> Result<(), AllocErr
     put::text(out, b" had")
 }
 
-fn put_units(out: &mut Vec<u8>, r: Row) -> Result<(), AllocError> {
+fn put_units(out: &mut Vec<u8>, r: &Row) -> Result<(), AllocError> {
     put_all(out, r.units)?;
     put::words(out, b" units of type ", r.kind as u64, b", taken until ")?;
     names::tasks(out, r.freeing)?;
@@ -45,137 +43,92 @@ fn put_also(out: &mut Vec<u8>, others: bool) -> Result<(), AllocError> {
     Ok(())
 }
 
-fn put_freeing(
-    out: &mut Vec<u8>,
-    order: &[usize; MOST_TASKS],
-    n: usize,
-    r: Row,
-) -> Result<(), AllocError> {
-    if r.freeing == 0 {
-        return Ok(());
+fn put_freeing(out: &mut Vec<u8>, run: &Run, r: &Row) -> Result<(), AllocError> {
+    if let Some(first) = run.first_of(r.freeing) {
+        put_also(out, r.awaited != 0)?;
+        if r.units == 1 {
+            put_one_unit(out, r.kind, first)?;
+        } else {
+            put_units(out, r)?;
+        }
     }
-    put_also(out, r.awaited != 0)?;
-    if r.units == 1 {
-        put_one_unit(out, r.kind, held::first_of(order, n, r.freeing))
-    } else {
-        put_units(out, r)
-    }
+    Ok(())
 }
 
-fn put_released(out: &mut Vec<u8>, r: Row) -> Result<(), AllocError> {
-    if !r.released {
-        return Ok(());
+fn put_released(out: &mut Vec<u8>, r: &Row) -> Result<(), AllocError> {
+    if r.released {
+        put_also(out, !r.waits_for_none())?;
+        let start = u64::from(r.start);
+        put::words(out, b"its N line: not before ", start, b"")?;
     }
-    put_also(out, !held::waits_for_none(r))?;
-    put::words(out, b"its N line: not before ", r.start as u64, b"")
+    Ok(())
 }
 
-fn put_behind(out: &mut Vec<u8>, r: Row) -> Result<(), AllocError> {
-    if !r.behind {
-        return Ok(());
+fn put_behind(out: &mut Vec<u8>, r: &Row) -> Result<(), AllocError> {
+    if let Some(before) = r.behind {
+        put_also(out, !r.waits_for_none() | r.released)?;
+        put::text(out, b"the order: ")?;
+        names::task(out, before)?;
+        put::text(out, b", just before it, starts only then")?;
     }
-    put_also(out, !held::waits_for_none(r) | r.released)?;
-    put::text(out, b"the order: ")?;
-    names::task(out, r.previous)?;
-    put::text(out, b", just before it, starts only then")
+    Ok(())
 }
 
-fn put_reasons(
-    out: &mut Vec<u8>,
-    order: &[usize; MOST_TASKS],
-    n: usize,
-    r: Row,
-) -> Result<(), AllocError> {
+fn put_reasons(out: &mut Vec<u8>, run: &Run, r: &Row) -> Result<(), AllocError> {
     if r.start == 0 {
-        put::text(out, b"nothing")
-    } else {
-        put_awaited(out, r.awaited)?;
-        put_freeing(out, order, n, r)?;
-        put_released(out, r)?;
-        put_behind(out, r)
+        return put::text(out, b"nothing");
     }
+    put_awaited(out, r.awaited)?;
+    put_freeing(out, run, r)?;
+    put_released(out, r)?;
+    put_behind(out, r)
 }
 
-fn put_row(
-    out: &mut Vec<u8>,
-    order: &[usize; MOST_TASKS],
-    n: usize,
-    r: Row,
-    digits: usize,
-) -> Result<(), AllocError> {
+fn put_row(out: &mut Vec<u8>, run: &Run, r: &Row) -> Result<(), AllocError> {
     put::right(out, r.task as u64, 4)?;
     put::under(out, b"type", 1, r.kind as u64)?;
-    put::under(out, b"start", digits, r.start as u64)?;
-    put::under(out, b"finish", digits, r.finish as u64)?;
+    put::under(out, b"start", run.digits, u64::from(r.start))?;
+    put::under(out, b"finish", run.digits, u64::from(r.finish))?;
     put::text(out, b"  ")?;
-    put_reasons(out, order, n, r)?;
+    put_reasons(out, run, r)?;
     put::end_line(out)
 }
 
-// The row of a task, or its link in the chain.
-fn put_one<'a>(
+// Puts something of each task in the order.
+fn put_each<F: Fn(&mut Vec<u8>, &Row) -> Result<(), AllocError>>(
     out: &mut Vec<u8>,
-    order: &'a [usize; MOST_TASKS],
-    n: usize,
-    r: Row,
-    digits: usize,
-    h: Chain,
-    links: bool,
-) -> Result<(), AllocError> {
-    if links {
-        chain::put_link(out, order, n, r, h, digits)
-    } else {
-        put_row(out, order, n, r, digits)
-    }
-}
-
-// The rows of all tasks in the order, or the links of the chain.
-fn put_rows(
-    out: &mut Vec<u8>,
-    p: Plan,
-    c: Constraint,
-    s: Simulation,
-    digits: usize,
-    h: Chain,
-    links: bool,
-) -> Result<(), AllocError> {
-    let n = p.tasks;
-    let mut i = 0;
-    while i < n {
-        let at = i;
-        i += 1;
-        let r = held::at(
-            &c.order,
-            &c.chosen,
-            &p.predecessors,
-            &p.units,
-            &s.starts,
-            &s.finishes,
-            &p.releases,
-            n,
-            at,
-        );
-        put_one(out, &c.order, n, r, digits, h, links)?;
+    run: &Run,
+    write: F,
+) -> Result<(), AllocError>
+    requires { F.IsAlwaysCallable write }
+{
+    for i in 0..run.plan.tasks {
+        write(out, &run.row(i))?;
     }
     Ok(())
 }
 
 fn put_heads(out: &mut Vec<u8>, digits: usize) -> Result<(), AllocError> {
-    put::text(out, b"task")?;
-    put::head(out, b"type", 1)?;
-    put::head(out, b"start", digits)?;
-    put::head(out, b"finish", digits)?;
+    put::heads(
+        out,
+        &[(b"type", 1), (b"start", digits), (b"finish", digits)],
+    )?;
     put::text(out, b"  held until its start by\n")
 }
 
-// Of a plan that the check takes.
+// Of a plan that the check takes. Plan and constraint come by value, as the bound takes them.
 pub fn show(out: &mut Vec<u8>, p: Plan, c: Constraint) -> Result<(), AllocError> {
     let s = simulation::bound(p, c);
-    let digits = put::digits(s.response as u64);
-    let h = chain::of(p, c, s);
-    put_heads(out, digits)?;
-    put_rows(out, p, c, s, digits, h, false)?;
-    chain::begin(out, p, c, s, digits)?;
-    put_rows(out, p, c, s, digits, h, true)?;
-    chain::end(out, s, digits)
+    let run = Run {
+        plan: p,
+        constraint: c,
+        simulation: s,
+        digits: put::digits(u64::from(s.response)),
+    };
+    let chain = chain::of(&run);
+    put_heads(out, run.digits)?;
+    put_each(out, &run, |out, r| put_row(out, &run, r))?;
+    chain::begin(out, &run)?;
+    put_each(out, &run, |out, r| chain::put_link(out, &run, r, &chain))?;
+    chain::put_sum(out, &run)
 }

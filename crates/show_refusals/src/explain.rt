@@ -24,6 +24,7 @@ fn too_long(out: &mut Vec<u8>, text: &[u8]) -> Result<(), AllocError> {
     lines::quote(out, text, 1)
 }
 
+// The numbers are C's: `read` and `check` answer as C reads it.
 fn unread(out: &mut Vec<u8>, text: &[u8], number: u32, place: usize) -> Result<(), AllocError> {
     match number {
         1 => too_long(out, text),
@@ -32,37 +33,40 @@ fn unread(out: &mut Vec<u8>, text: &[u8], number: u32, place: usize) -> Result<(
     }
 }
 
-fn unchecked(out: &mut Vec<u8>, text: &[u8], p: Plan, c: Constraint) -> Result<(), AllocError> {
-    let v = plan_check::check(p, c);
-    let number = v.number;
-    match number {
+fn unchecked(out: &mut Vec<u8>, text: &[u8], p: &Plan, c: &Constraint) -> Result<(), AllocError> {
+    let Err(refusal) = plan_check::checked(p, c) else {
+        return Ok(());
+    };
+    match refusal.number {
         8 => checks::no_plan(out, text, p.tasks),
-        9 => checks::missing_choice(out, text, &p.predecessors, p.tasks),
-        10 => checks::unusable_type(out, text, &c.order, &c.chosen, v.place),
-        11 => circle::show(out, text, &p.predecessors, &c.order, p.tasks, v.place),
-        _ => Ok(()),
+        9 => checks::missing_choice(out, text, p),
+        10 => checks::unusable_type(out, text, c, refusal.place),
+        _ => circle::show(out, text, p, c, refusal.place),
     }
 }
 
-// The order of the text, if it has one, does not count.
-fn unproposed(out: &mut Vec<u8>, text: &[u8], p: Plan) -> Result<(), AllocError> {
+// Why a text is refused.
+pub fn show(out: &mut Vec<u8>, text: &[u8]) -> Result<(), AllocError> {
+    let a = plan_text::read(text);
+    match a.number {
+        0 => unchecked(out, text, &a.plan, &a.constraint),
+        number => unread(out, text, number, a.place),
+    }
+}
+
+fn without_order(out: &mut Vec<u8>, text: &[u8], p: &Plan) -> Result<(), AllocError> {
     if plan_rules::plan_ok(p) {
-        circle::show_alone(out, text, &p.predecessors)
+        circle::show_alone(out, text, p)
     } else {
         checks::no_plan(out, text, p.tasks)
     }
 }
 
-pub fn show(out: &mut Vec<u8>, text: &[u8], is_proposal: bool) -> Result<(), AllocError> {
+// Why a text has no proposal. Its order, if it has one, does not count.
+pub fn show_unproposed(out: &mut Vec<u8>, text: &[u8]) -> Result<(), AllocError> {
     let a = plan_text::read(text);
-    let number = a.number;
-    let place = a.place;
-    if number != 0 {
-        return unread(out, text, number, place);
-    }
-    if is_proposal {
-        unproposed(out, text, a.plan)
-    } else {
-        unchecked(out, text, a.plan, a.constraint)
+    match a.number {
+        0 => without_order(out, text, &a.plan),
+        number => unread(out, text, number, a.place),
     }
 }

@@ -1,24 +1,13 @@
-// Entries of arrays by task number or position; 0 past the last.
-use plan::{MOST_TASKS, MOST_TYPES};
+// Entries of lists by their index.
 
-pub fn entry(of: &[usize; MOST_TASKS], i: usize) -> usize {
-    if MOST_TASKS <= i {
-        return 0;
-    }
-    of[i]
+// 0 past the last.
+pub fn entry<T: Copy + Default>(of: &[T], i: usize) -> T {
+    of.get(i).copied().unwrap_or_default()
 }
 
-pub fn instant(of: &[u32; MOST_TASKS], t: usize) -> u32 {
-    if MOST_TASKS <= t {
-        return 0;
+// Nothing is set past the last.
+pub fn set<T: Copy>(of: &mut [T], i: usize, x: T) {
+    if let Some(old) = of.get_mut(i) {
+        *old = x;
     }
-    of[t]
-}
-
-// How many units a type has.
-pub fn count(of: &[u32; MOST_TYPES], k: usize) -> u32 {
-    if MOST_TYPES <= k {
-        return 0;
-    }
-    of[k]
 }

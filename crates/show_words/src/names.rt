@@ -9,38 +9,26 @@ fn separator(out: &mut Vec<u8>, set: u64, t: usize) -> Result<(), AllocError> {
     if before == 0 {
         return Ok(());
     }
-    if (before as u64) + 1 < (all as u64) {
+    if before.saturating_add(1) < all {
         put::text(out, b", ")
     } else {
         put::text(out, b" and ")
     }
 }
 
-fn member(out: &mut Vec<u8>, set: u64, t: usize) -> Result<(), AllocError> {
-    if task_set::contains(set, t) {
-        separator(out, set, t)?;
-        put::number(out, t as u64)?;
-    }
-    Ok(())
-}
-
 // The members alone.
 pub fn numbers(out: &mut Vec<u8>, set: u64) -> Result<(), AllocError> {
-    let mut t = 0;
-    while t < plan::MOST_TASKS {
-        member(out, set, t)?;
-        t += 1;
+    for t in 0..plan::MOST_TASKS {
+        if task_set::contains(set, t) {
+            separator(out, set, t)?;
+            put::number(out, t as u64)?;
+        }
     }
     Ok(())
 }
 
 // The members after a word for one or a word for several.
-pub fn named<'a>(
-    out: &mut Vec<u8>,
-    one: &'a [u8],
-    several: &'a [u8],
-    set: u64,
-) -> Result<(), AllocError> {
+pub fn named(out: &mut Vec<u8>, one: &[u8], several: &[u8], set: u64) -> Result<(), AllocError> {
     if task_set::member_count(set) == 1 {
         put::text(out, one)?;
     } else {

@@ -28,43 +28,37 @@ pub fn digits(n: u64) -> usize {
     buffer.format(n).len()
 }
 
-fn space(out: &mut Vec<u8>) -> Result<(), AllocError> {
-    text(out, b" ")
-}
-
 fn spaces(out: &mut Vec<u8>, n: usize) -> Result<(), AllocError> {
-    let mut i = 0;
-    while i < n {
-        space(out)?;
-        i += 1;
+    for _ in 0..n {
+        text(out, b" ")?;
     }
     Ok(())
 }
 
 // A number at the right of so many columns.
 pub fn right(out: &mut Vec<u8>, n: u64, width: usize) -> Result<(), AllocError> {
-    let used = digits(n);
-    if used < width {
-        spaces(out, width - used)?;
-    }
+    spaces(out, width.saturating_sub(digits(n)))?;
     number(out, n)
 }
 
 // The head of a column, two spaces after the column before. A column is as wide as its head, or as so many digits.
 pub fn head(out: &mut Vec<u8>, s: &[u8], digits: usize) -> Result<(), AllocError> {
     text(out, b"  ")?;
-    if s.len() < digits {
-        spaces(out, digits - s.len())?;
-    }
+    spaces(out, digits.saturating_sub(s.len()))?;
     text(out, s)
+}
+
+// The heads of a table of tasks, each with the digits of its column.
+pub fn heads(out: &mut Vec<u8>, columns: &[(&[u8], usize)]) -> Result<(), AllocError> {
+    text(out, b"task")?;
+    for &(s, digits) in columns {
+        head(out, s, digits)?;
+    }
+    Ok(())
 }
 
 // A number in the column with this head.
 pub fn under(out: &mut Vec<u8>, head: &[u8], digits: usize, n: u64) -> Result<(), AllocError> {
     text(out, b"  ")?;
-    if head.len() < digits {
-        right(out, n, digits)
-    } else {
-        right(out, n, head.len())
-    }
+    right(out, n, digits.max(head.len()))
 }

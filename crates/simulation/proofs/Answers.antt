@@ -2,8 +2,9 @@
 use mathlib.Core.Path.{◌≡◌, refl, sym, ap, ◌∙◌, subst}
 use mathlib.Core.Bool.{false}
 use mathlib.Core.List.{List}
-use Prim.Native.Nat.{ℕ, ◌+◌, ◌≤◌, ◌<◌, zero-le}
-use native.Mathlib.Nat.{le_trans, le_of_eq}
+use Rattle.std.specs.Prelude.{None, Some, Err}
+use Prim.Native.Nat.{ℕ, ◌+◌, ◌≤◌, zero-le}
+use native.Mathlib.Nat.{le_refl, le_trans, le_of_eq}
 use native.Mathlib.Omega.{arith}
 use borrow.Author.Tests.{eq-eqb, ne_eqb, eqb-true, lt-ltb, le-ltb, not-false}
 use lib.Dec.{eqb}
@@ -15,23 +16,20 @@ use Rattle.plan.specs.declared.Plan.{Plan}
 use Rattle.plan.specs.declared.Constraint.{Constraint}
 use Rattle.plan.specs.declared.Verdict.{Verdict}
 use Rattle.plan.specs.Rules.{time_of}
-use Rattle.plan.specs.Refusals.{refused, first_refusal, unless_at, verdict}
+use Rattle.plan.specs.Refusals.{refused, as_result, first_refusal, unless_at, verdict}
 use Rattle.plan.specs.Steps.{Positions}
+use Rattle.plan.proofs.Refusing.{as_err}
 use Rattle.plan.proofs.Accepted.{Accepted, accepted, positions}
 use Rattle.dispatch_theory.specs.Sums.{sum}
 use Rattle.runs.specs.Running.{type_of, worst, allowed, Allowed, greatest_release, bound}
 use Rattle.runs.proofs.Positions.{task_at, type_entry, worst_entry, worst_short, allowed_most, allowed_lasts, worst_allowed}
 use Rattle.runs.proofs.Theorems.{bound_sum}
 use Rattle.simulation_run.specs.declared.Simulation.{Simulation}
-use Rattle.simulation_times.specs.Times.{time_in, ChosenTimes, LowestOf, outside_at}
+use Rattle.simulation_times.specs.Times.{time_in, ChosenTimes, Lowest, LowestOf, outside_at}
 use Rattle.simulation_run.specs.Ran.{ran}
 use Rattle.simulation.specs.Simulated.{outside, times_verdict, simulation_verdict, not_run, simulated, worst_case}
 use Rattle.simulation_run.specs.Steps.{Runnable, Listed}
 use Rattle.simulation_times.proofs.Lowest.{lowest_all}
-
--- the check takes the plan and the constraint
-pub checked : (p : Plan) (c : Constraint) {v : Verdict} → v ≡ verdict p c → v.number ≡ 0 → (verdict p c).number ≡ 0
-checked p c e h = sym (ap (λ (v : Verdict). v.number) e) ∙ h
 
 module _ (p : Plan) (c : Constraint) (e : (verdict p c).number ≡ 0) where
   abbrev a : Accepted p c
@@ -52,7 +50,10 @@ module _ (p : Plan) (c : Constraint) (e : (verdict p c).number ≡ 0) where
 
   -- ---- the bound
 
-  module _ {by_task : List ℕ} (h : ChosenTimes p.wcet c.order c.chosen p.tasks by_task) where
+  module _ {by_task : List ℕ} (f : ChosenTimes p.wcet c.order c.chosen c.len by_task) where
+    h : ChosenTimes p.wcet c.order c.chosen p.tasks by_task
+    h = rw a.whole at f
+
     pub worst-listed : Listed p by_task (worst p c)
     unfolding worst
     worst-listed t l =
@@ -74,40 +75,44 @@ module _ (p : Plan) (c : Constraint) (e : (verdict p c).number ≡ 0) where
     unfolding simulated simulation_verdict first_refusal times_verdict
     says-17 f = rw (e, ne_eqb (length times) p.tasks f) refl
 
-    module _ (counted : length times ≡ p.tasks) {place : ℕ}
-        (o : LowestOf p.tasks c.order (outside_at p.wcet c.order c.chosen times) p.tasks place) where
-      place_is : place ≡ first p.tasks (outside p c times)
+    module _ (counted : length times ≡ p.tasks) where
+      place_is : {place : ℕ} → LowestOf p.tasks c.order (outside_at p.wcet c.order c.chosen times) p.tasks place
+          → place ≡ first p.tasks (outside p c times)
       unfolding outside outside_at allowed
-      place_is = lowest_all a (outside p c times) (λ i l. rw (worst_entry a i l) refl) o
+      place_is o = lowest_all a (outside p c times) (λ i l. rw (worst_entry a i l) refl) o
 
-      pub says-18 : place < p.tasks → not_run (refused 18 place) ≡ simulated p c times
+      pub says-18 : {place : ℕ} → Lowest p.tasks c.order (outside_at p.wcet c.order c.chosen times) (Some place)
+          → not_run (refused 18 place) ≡ simulated p c times
       unfolding simulated simulation_verdict first_refusal times_verdict unless_at
-      says-18 l = rw (e, eq-eqb (length times) p.tasks counted, ← place_is, lt-ltb place p.tasks l) refl
+      says-18 {place} o = rw (e, eq-eqb (length times) p.tasks counted, ← place_is o.1, lt-ltb place p.tasks o.0) refl
 
-      module _ (l : p.tasks ≤ place) where
+      module _ (o : Lowest p.tasks c.order (outside_at p.wcet c.order c.chosen times) None) where
         pub given-runnable : Runnable p c times
         unfolding outside
         given-runnable =
             runnable times (time_in times) (le_of_eq (sym counted)) (λ t m. refl)
-            (λ t m. not-false _ (first_none p.tasks (outside p c times) (le_trans l (le_of_eq place_is)) t m))
+            (λ t m. not-false _ (first_none p.tasks (outside p c times) (le_of_eq (place_is o)) t m))
 
         pub simulation-runs : {r : Simulation} → r ≡ ran p c (time_in times) → r ≡ simulated p c times
         unfolding simulated simulation_verdict first_refusal times_verdict unless_at
-        simulation-runs f = rw (e, eq-eqb (length times) p.tasks counted, ← place_is, le-ltb place p.tasks l) f
+        simulation-runs f = rw (e, eq-eqb (length times) p.tasks counted, ← place_is o, le-ltb p.tasks p.tasks (le_refl _)) f
 
 -- ---- what the check refuses
 
-module _ (p : Plan) (c : Constraint) {v : Verdict} (ev : v ≡ verdict p c) (f : v.number ≡ 0 → ⊥) where
+module _ (p : Plan) (c : Constraint) {v : Verdict} (h : Err v ≡ as_result (verdict p c)) where
+  is : v ≡ verdict p c
+  is = (as_err _ h).0
+
   refuses : eqb (verdict p c).number 0 ≡ false
-  refuses = ne_eqb _ 0 (λ q. f (ap (λ (x : Verdict). x.number) ev ∙ q))
+  refuses = (as_err _ h).1
 
-  pub bound-refused : not_run (refused v.number v.place) ≡ worst_case p c
+  pub bound-refused : not_run v ≡ worst_case p c
   unfolding worst_case
-  bound-refused = ap not_run ev ∙ rw refuses refl
+  bound-refused = ap not_run is ∙ rw refuses refl
 
-  pub simulation-refused : (times : List ℕ) → not_run (refused v.number v.place) ≡ simulated p c times
+  pub simulation-refused : (times : List ℕ) → not_run v ≡ simulated p c times
   unfolding simulated simulation_verdict first_refusal
-  simulation-refused times = ap not_run ev ∙ rw refuses (rw refuses refl)
+  simulation-refused times = ap not_run is ∙ rw refuses (rw refuses refl)
 
 -- ---- the bound is at most the greatest not-before instant plus the sum of the worst times
 

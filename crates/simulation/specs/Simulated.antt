@@ -1,6 +1,6 @@
 -- The simulation and the bound (document 01, "Running rules"; "When an operation says no", Simulation and bound).
 -- Assumes nothing.
-use Rattle.std.specs.Prelude.{Bool, cond, not, List, ℕ, eqb, length}
+use Rattle.std.specs.Prelude.{Bool, cond, not, List, Result, Ok, Err, ℕ, eqb, length}
 use Rattle.task_set.specs.Bounded.{tabulate}
 use Rattle.plan.specs.declared.Plan.{Plan}
 use Rattle.plan.specs.declared.Constraint.{Constraint}
@@ -38,6 +38,11 @@ not_run v =
       starts = tabulate most_tasks (λ t. 0);
       finishes = tabulate most_tasks (λ t. 0);
     }
+
+-- an answer in the form that C reads
+abbrev pub answered : Result Simulation Verdict → Simulation
+answered (Ok r) = r
+answered (Err v) = not_run v
 
 unfoldable pub simulated : Plan → Constraint → List ℕ → Simulation
 simulated p c times =

@@ -25,7 +25,7 @@ use Rattle.dispatch_theory.proofs.Greedy.{ends, after}
 use Rattle.dispatch_theory.proofs.Units.{Booked, booked_none, booked_more, start_is, open_now}
 use Rattle.dispatch_theory.specs.Sums.{greatest}
 use Rattle.dispatch_theory.proofs.Sums.{greatest_lub, greatest_le}
-use Rattle.runs.specs.Running.{or_zero, horizon, ended, response}
+use Rattle.runs.specs.Running.{or_zero, horizon, ended}
 use Rattle.runs.proofs.Positions.{task_at, type_at, position, position_entry, horizon_short}
 use Rattle.runs.proofs.Orders.{order_of, Lasting, durations, starts_of, start_of, finish_of, greedy}
 use Rattle.runs.proofs.Closed.{timed_closed}

@@ -3,10 +3,10 @@ use mathlib.Core.Path.{◌≡◌, refl, sym, ap, ◌∙◌, subst}
 use mathlib.Core.Bool.{Bool, true, false, ◌&&◌, not, and-true}
 use mathlib.Core.List.{List}
 use Prim.Native.Nat.{ℕ, ◌+◌, ◌<◌}
-use native.Mathlib.Nat.{le_refl, lt_trans, lt_of_lt_of_le, not-suc-le-zero}
+use native.Mathlib.Nat.{le_refl, le_antisymm, lt_trans, lt_of_lt_of_le, not-suc-le-zero}
 use native.Mathlib.Omega.{arith}
 use borrow.Author.Count.{below_more}
-use borrow.Author.Tests.{ltb-true, lt-ltb}
+use borrow.Author.Tests.{ltb-true, ltb-false, lt-ltb}
 use lib.Dec.{ltb}
 use Rattle.task_set.specs.Bounded.{first}
 use Rattle.task_set.proofs.Truth.{and_left, and_right}
@@ -16,7 +16,9 @@ use Rattle.plan.specs.declared.Constraint.{Constraint}
 use Rattle.plan.specs.Rules.{time_of, between}
 use Rattle.plan.specs.Refusals.{entry_at}
 use Rattle.plan.proofs.Accepted.{Accepted}
-use Rattle.simulation_times.specs.Times.{time_in, outside_at, LowestOf}
+use Rattle.std.specs.Prelude.{Option}
+use Rattle.std.specs.Bool.{then_some}
+use Rattle.simulation_times.specs.Times.{time_in, outside_at, Lowest, LowestOf}
 
 -- a position fails by the worst time that is read
 pub outside_by : (wcet order chosen times : List ℕ) (i : ℕ) {worst : ℕ}
@@ -55,6 +57,14 @@ module _ {n : ℕ} {order : List ℕ} {fails : ℕ → Bool} where
   -- all are looked at
   pub lowest_end : {k m r : ℕ} → LowestOf n order fails k r → k ≡ m → LowestOf n order fails m r
   lowest_end {r = r} o e = subst (λ (x : ℕ). LowestOf n order fails x r) e o
+
+  -- as the answer tells it
+  pub lowest_told : {r : ℕ} → LowestOf n order fails n r → {o : Option ℕ} → o ≡ then_some (ltb r n) r → Lowest n order fails o
+  lowest_told {r} l e = subst (Lowest n order fails) (sym e) (go (ltb r n) refl)
+    where
+      go : (b : Bool) → ltb r n ≡ b → Lowest n order fails (then_some b r)
+      go true f = (ltb-true r n f, l)
+      go false f = subst (LowestOf n order fails n) (le_antisymm l.within (ltb-false r n f)) l
 
 -- of all positions: the first task that fails
 pub lowest_all : {p : Plan} {c : Constraint} → Accepted p c → {fails : ℕ → Bool} (q : ℕ → Bool)

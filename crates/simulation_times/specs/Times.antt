@@ -1,5 +1,5 @@
 -- Times by task number: those of the chosen types, and the lowest that is out of range. Assumes nothing.
-use Rattle.std.specs.Prelude.{◌≡◌, Bool, true, false, not, List, ℕ, ◌≤◌, ◌<◌, length, get_or}
+use Rattle.std.specs.Prelude.{◌≡◌, Bool, true, false, not, List, ℕ, Option, None, Some, ◌≤◌, ◌<◌, length, get_or}
 use Rattle.plan.specs.Rules.{most_tasks, time_of, between}
 use Rattle.plan.specs.Refusals.{entry_at}
 
@@ -23,3 +23,8 @@ pub record LowestOf (n : ℕ) (order : List ℕ) (fails : ℕ → Bool) (k r : �
   pub within : r ≤ n
   pub passed : (i : ℕ) → i < k → entry_at order i < r → fails i ≡ false
   pub found : r < n → (i : ℕ) × (i < k) × (entry_at order i ≡ r) × (fails i ≡ true)
+
+-- the lowest of n tasks in an order of these that fails, and none where none does
+abbrev pub Lowest : ℕ → List ℕ → (ℕ → Bool) → Option ℕ → Type 0
+Lowest n order fails (Some r) = (r < n) × LowestOf n order fails n r
+Lowest n order fails None = LowestOf n order fails n n

@@ -1,5 +1,5 @@
 -- The laws that belong to no one function, in reading order.
--- differences of two numbers, and a number without its sign
+-- differences of two numbers
 pub mod Differences
 -- the slack of a task
 pub mod Slack

@@ -1,5 +1,5 @@
 -- How much is to spare (document 02, 2): a task's slack, which the paper calls its margin. Assumes nothing.
-use Rattle.std.specs.Prelude.{Bool, true, false, cond, ◌&&◌, List, ℕ, ◌<◌, eqb, ltb, ℤ, pos, nat_abs, ◌-ℤ◌, get_or, replicate, ◌≤ℤ◌}
+use Rattle.std.specs.Prelude.{Bool, true, false, cond, ◌&&◌, Option, None, Some, List, ℕ, ◌<◌, eqb, ltb, ℤ, pos, nat_abs, ◌-ℤ◌, get_or, replicate, ◌≤ℤ◌}
 use Rattle.std.specs.Int.Signed.{lt_z, le_z}
 use Rattle.task_set.specs.Bounded.{all, any, first, implies, tabulate}
 use Rattle.plan.specs.declared.Plan.{Plan}
@@ -29,6 +29,12 @@ is_tightest deadlines slacks t =
 -- "the lowest of these that has it"
 unfoldable pub tightest : List ℕ → List ℤ → ℕ
 tightest deadlines slacks = first most_tasks (is_tightest deadlines slacks)
+
+-- and its slack, where a task has a deadline
+unfoldable pub tightest_task : List ℕ → List ℤ → Option (ℕ × ℤ)
+tightest_task deadlines slacks =
+    let t = tightest deadlines slacks in
+    cond (any most_tasks (is_due deadlines)) (Some (t, slack_at slacks t)) None
 
 -- zeros, and no deadline: where refused, and where there are none
 unfoldable pub no_slacks : ℕ → ℕ → Slacks

@@ -1,18 +1,19 @@
 // How much is to spare (document 02, 2): the slack of each task with a deadline, which the paper calls its margin.
 #![tactic(auto)]
 
-ghost use Rattle.std.specs.Prelude.{◌≡◌, ◌<◌, nat_abs, pos, ◌-ℤ◌, ltb};
-ghost use Rattle.task_set.specs.Bounded.{any, tabulate};
+ghost use Rattle.std.specs.Prelude.{◌≡◌, ◌<◌, pos, ◌-ℤ◌};
+ghost use Rattle.task_set.specs.Bounded.{tabulate};
 ghost use Rattle.plan.specs.Rules.{most_tasks};
-ghost use Rattle.slack.specs.Margins.{InRange, is_due, no_slacks, parts_of, slack_of, slacks_in, slacks_of, tightest};
+ghost use Rattle.slack.specs.Margins.{InRange, no_slacks, parts_of, slack_of, slacks_in, slacks_of, tightest_task};
 
 use plan::{Constraint, MOST_TASKS, Plan};
 use simulation::Simulation;
+use std::array;
 
-// Each task's slack, 0 without deadline; whether some task has a deadline, and of these the least slack and the lowest task
-// that has it. Zeros where refused.
+// What C is handed: each task's slack, 0 without deadline; whether some task has a deadline, and of these the least slack and the
+// lowest task that has it. Zeros where refused.
 #[repr(C)]
-#[derive(Drop)]
+#[derive(Clone, Copy)]
 pub struct Slacks {
     pub number: u32,
     pub place: usize,
@@ -23,10 +24,20 @@ pub struct Slacks {
 }
 
 // A number that may be below zero, by its sign and its size.
-#[derive(Clone, Copy)]
+#[derive(Clone, Copy, PartialEq, Eq)]
 pub struct Parts {
     pub negative: bool,
     pub size: usize,
+}
+
+// The sign of a number, and the number without it.
+pub fn parts_of(x: i64) -> Parts
+    ensures { result ≡ parts_of x }
+{
+    Parts {
+        negative: x < 0,
+        size: x.unsigned_abs() as usize,
+    }
 }
 
 fn no_slacks(number: u32, place: usize) -> Slacks
@@ -42,100 +53,56 @@ fn no_slacks(number: u32, place: usize) -> Slacks
     }
 }
 
-// A number without its sign.
-fn magnitude(x: i64) -> usize
-    ensures { result ≡ nat_abs x }
-{
-    if 0 <= x {
-        return x as usize;
-    }
-    (-1 - x) as usize + 1
-}
-
-// The sign of a number, and the number without it.
-pub fn parts_of(x: i64) -> Parts
-    ensures { result ≡ parts_of x }
-{
-    let negative = x < 0;
-    let size = magnitude(x);
-    Parts { negative, size }
-}
-
-fn is_due(deadlines: &[u32; MOST_TASKS], t: usize) -> bool
-    ensures { result ≡ is_due deadlines.now t }
-{
-    0 < plan::deadline_of(deadlines, t)
-}
-
 // The deadline minus the finish. Neither is negative, so that the difference fits.
 fn difference(deadline: u32, finish: u32) -> i64
     ensures { result ≡ pos deadline -ℤ pos finish }
 {
-    (deadline as i64) - (finish as i64)
+    i64::from(deadline) - i64::from(finish)
 }
 
-fn slack_of<'a>(deadlines: &'a [u32; MOST_TASKS], finishes: &'a [u32; MOST_TASKS], t: usize) -> i64
+fn slack_of(p: &Plan, s: &Simulation, t: usize) -> i64
     requires { t < most_tasks }
-    ensures { result ≡ slack_of deadlines.now finishes.now t }
+    ensures { result ≡ slack_of p.now.deadlines s.now.finishes t }
 {
-    let d = plan::deadline_of(deadlines, t);
-    let f = finishes[t];
-    if d == 0 {
-        return 0;
-    }
-    difference(d, f)
+    let d = plan::deadline_of(&p.deadlines, t);
+    let f = s.finishes[t];
+    let due = d != 0;
+    if due { difference(d, f) } else { 0 }
 }
 
 // The slack of each task, by task number.
-fn each_slack<'a>(
-    deadlines: &'a [u32; MOST_TASKS],
-    finishes: &'a [u32; MOST_TASKS],
-) -> [i64; MOST_TASKS]
-    ensures { result ≡ tabulate most_tasks (slack_of deadlines.now finishes.now) }
+fn each_slack(p: &Plan, s: &Simulation) -> [i64; MOST_TASKS]
+    ensures { result ≡ tabulate most_tasks (slack_of p.now.deadlines s.now.finishes) }
 {
-    let mut slacks = [0i64; MOST_TASKS];
-    let mut t = 0;
-    while t < MOST_TASKS {
-        slacks[t] = slack_of(deadlines, finishes, t);
-        t += 1;
-    }
-    slacks
+    array::from_fn(|t| slack_of(p, s, t))
 }
 
-// The lowest of the tasks with a deadline whose slack is least; MOST_TASKS where there are none.
-fn tightest_task<'a>(deadlines: &'a [u32; MOST_TASKS], slacks: &'a [i64; MOST_TASKS]) -> usize
-    ensures { (result ≡ tightest deadlines.now slacks.now)
-        × (any most_tasks (is_due deadlines.now) ≡ ltb result most_tasks) }
+// The lowest of the tasks with a deadline whose slack is least, and its slack.
+fn tightest_task(p: &Plan, slacks: &[i64; MOST_TASKS]) -> Option<(usize, i64)>
+    ensures { result ≡ tightest_task p.now.deadlines slacks.now }
 {
-    let mut found = MOST_TASKS;
-    let mut least = 0i64;
-    let mut t = 0;
-    while t < MOST_TASKS {
+    let mut best: Option<(usize, i64)> = None;
+    for t in 0..MOST_TASKS {
         let s = slacks[t];
-        if is_due(deadlines, t) & ((found == MOST_TASKS) | (s < least)) {
-            found = t;
-            least = s;
+        let due = 0 < plan::deadline_of(&p.deadlines, t);
+        if due & best.is_none_or(|(_, least)| s < least) {
+            best = Some((t, s));
         }
-        t += 1;
     }
-    found
+    best
 }
 
 // The slacks of a plan in a run; the run's refusal where it has one.
-pub fn slacks_in(p: Plan, s: Simulation) -> Slacks
-    ensures { result ≡ slacks_in p s }
+pub fn slacks_in(p: &Plan, s: &Simulation) -> Slacks
+    ensures { result ≡ slacks_in p.now s.now }
 {
-    let number = s.number;
-    let place = s.place;
-    if number != 0 {
-        return no_slacks(number, place);
+    if s.number != 0 {
+        return no_slacks(s.number, s.place);
     }
-    let slacks = each_slack(&p.deadlines, &s.finishes);
-    let task = tightest_task(&p.deadlines, &slacks);
-    if MOST_TASKS <= task {
+    let slacks = each_slack(p, s);
+    let Some((task, least)) = tightest_task(p, &slacks) else {
         return no_slacks(0, 0);
-    }
-    let least = slacks[task];
+    };
     Slacks {
         number: 0,
         place: 0,
@@ -151,5 +118,5 @@ pub fn slacks_of(p: Plan, c: Constraint) -> Slacks
     ensures { (result ≡ slacks_of p c) × InRange result.slacks }
 {
     let s = simulation::bound(p, c);
-    slacks_in(p, s)
+    slacks_in(&p, &s)
 }

@@ -1,14 +1,16 @@
 -- Runs of stores, one after the other. Assumes nothing.
 use mathlib.Core.Path.{◌≡◌, refl, sym, ap, ap₂, ◌∙◌}
 use mathlib.Core.List.{List, [], ◌∷◌, ◌++◌}
-use Prim.Native.Nat.{ℕ, suc, ◌+◌, ◌/◌, ◌%◌, ◌^◌, ◌≤◌, ◌<◌}
+use Prim.Native.Nat.{ℕ, zero, suc, ◌+◌, ◌-◌, ◌/◌, ◌%◌, ◌≤◌, ◌<◌}
 use native.Mathlib.Nat.{add-zero, le_of_eq}
 use native.Mathlib.Omega.{arith}
-use lib.ListN.{length, set, length-append}
-use lib.Seq.{sets, set_comm, length-sets}
-use Rattle.table_lines.specs.Decimal.{decimal}
+use borrow.Rule.Slice.PartMut.{put_mid}
+use lib.ListN.{length, set, take, drop, length-append}
+use Rattle.std.proofs.Common.{append_assoc, drop-drop}
+use lib.Seq.{sets, sets-eq, set_comm, length-sets}
+use Rattle.table_lines.specs.Decimal.{decimal, decimal_upto}
 use Rattle.table_lines.specs.Steps.{Room, Put}
-use Rattle.table_lines.proofs.Digits.{decimal_one, decimal_more, length_one, length_more}
+use Rattle.table_lines.proofs.Digits.{upto_last, upto_self}
 
 -- two runs are one
 sets_append : (b : List ℕ) (at : ℕ) (s t : List ℕ) → sets (sets b at s) (at + length s) t ≡ sets b at (s ++ t)
@@ -20,6 +22,16 @@ sets_append b at (x ∷ s) t =
 
 pub put_byte : (b : List ℕ) (at x : ℕ) → Put b at (x ∷ []) (set b at x) (at + 1)
 put_byte b at x = record { bytes = refl; end = refl }
+
+-- a part of the buffer is copied over
+pub put_part : (b s : List ℕ) (at k : ℕ) {t : List ℕ} → Room b at s → t ≡ s → k ≡ length s → Put b at s (put_mid at k b t) (at + length s)
+put_part b s at k h e f =
+    record {
+      bytes =
+          rw (e, f) (ap (λ (r : List ℕ). take at b ++ (s ++ r)) (drop-drop (length s) at b)
+          ∙ sym (append_assoc (take at b) s (drop (at + length s) b)) ∙ sym (sets-eq s b at h.fits));
+      end = refl;
+    }
 
 pub put_then : {b b₁ b₂ s t : List ℕ} {at m n : ℕ} → Put b at s b₁ m → Put b₁ m t b₂ n → Put b at (s ++ t) b₂ n
 put_then {b} {s = s} {t = t} {at = at} p q =
@@ -47,18 +59,41 @@ sets_set b at (y ∷ s) i x l =
     sets_set (set b at y) (suc at) s i x (omega arith)
     ∙ ap (λ (r : List ℕ). sets r (suc at) s) (set_comm b at i y x (λ e. omega arith))
 
--- the last digit of x is stored at i, before the others
-pub last_digit : (b : List ℕ) (at x i : ℕ) → 10 ≤ x → x < 10 ^ 20 → i + 1 ≡ at + length (decimal x)
-    → sets (set b i (48 + x % 10)) at (decimal (x / 10)) ≡ sets b at (decimal x)
-last_digit b at x i l h e =
-    let j : at + length (decimal (x / 10)) ≡ i = omega (arith, length_more x l h) in
-    sym (sets_set b at (decimal (x / 10)) i (48 + x % 10) (le_of_eq j))
-    ∙ ap (λ (k : ℕ). set (sets b at (decimal (x / 10))) k (48 + x % 10)) (sym j)
-    ∙ sets_append b at (decimal (x / 10)) ((48 + x % 10) ∷ [])
-    ∙ ap (sets b at) (sym (decimal_more x l h))
+-- where n digits of `left` are stored before i, x stands written in b₀
+pub record Left (b₀ : List ℕ) (at x : ℕ) (b : List ℕ) (i left : ℕ) : Type 0 where
+  pub n : ℕ
+  pub place : i ≡ at + n
+  pub long : length (decimal_upto n left) ≡ n
+  pub whole : sets b at (decimal_upto n left) ≡ sets b₀ at (decimal x)
 
--- the only digit
-pub only_digit : (b : List ℕ) (at x i : ℕ) → x < 10 → i + 1 ≡ at + length (decimal x) → set b i (48 + x) ≡ sets b at (decimal x)
-only_digit b at x i l e =
-    let j : i ≡ at = omega (arith, length_one x l) in
-    ap (λ (k : ℕ). set b k (48 + x)) j ∙ ap (sets b at) (sym (decimal_one x l))
+pub left_all : (b : List ℕ) (at x i : ℕ) → i ≡ at + length (decimal x) → Left b at x b i x
+unfolding decimal
+left_all b at x i e =
+    let s = upto_self 20 x in record { n = length (decimal x); place = e; long = ap length s; whole = ap (sets b at) s }
+
+pub left_fewer : {b₀ b : List ℕ} {at x i left : ℕ} → Left b₀ at x b i left → at < i
+    → Left b₀ at x (set b (i - 1) (48 + left % 10)) (i - 1) (left / 10)
+left_fewer {b₀} {b} {at} {x} {i} {left} h l = go h.n h.place h.long h.whole
+  where
+    go : (n : ℕ) → i ≡ at + n → length (decimal_upto n left) ≡ n → sets b at (decimal_upto n left) ≡ sets b₀ at (decimal x)
+        → Left b₀ at x (set b (i - 1) (48 + left % 10)) (i - 1) (left / 10)
+    go zero e f g = absurd (omega arith)
+    go (suc n) e f g =
+        let d = upto_last n left f in
+        let p = decimal_upto n (left / 10) in
+        let long : length p ≡ n = omega (arith, ap length d, length-append p ((48 + left % 10) ∷ [])) in
+        let j : at + length p ≡ i - 1 = omega arith in
+        record {
+          n = n;
+          place = omega arith;
+          long = long;
+          whole =
+              sym (sets_set b at p (i - 1) (48 + left % 10) (le_of_eq j))
+              ∙ ap (λ (k : ℕ). set (sets b at p) k (48 + left % 10)) (sym j)
+              ∙ sets_append b at p ((48 + left % 10) ∷ []) ∙ ap (sets b at) (sym d) ∙ g;
+        }
+
+pub left_none : {b₀ b : List ℕ} {at x i left : ℕ} → Left b₀ at x b i left → i ≤ at → b ≡ sets b₀ at (decimal x)
+unfolding decimal_upto
+left_none {b = b} {at} {left = left} h l =
+    let z : h.n ≡ 0 = omega (arith, h.place) in ap (λ (n : ℕ). sets b at (decimal_upto n left)) (sym z) ∙ h.whole

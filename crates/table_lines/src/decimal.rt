@@ -7,13 +7,10 @@ ghost use Rattle.table_lines.specs.Steps.{Put, Room};
 pub fn decimal_length(x: usize) -> usize
     ensures { (result ≡ length (decimal x)) × (result ≤ 20) }
 {
-    let mut left = x;
-    let mut n = 1;
-    while 10 <= left {
-        left = left / 10;
-        n += 1;
+    match x.checked_ilog10() {
+        Some(power) => power as usize + 1,
+        None => 1,
     }
-    n
 }
 
 // Writes x from `at` on, its last digit first, and answers the place after it.
@@ -23,12 +20,9 @@ pub fn put_decimal(buffer: &mut [u8], at: usize, x: usize) -> usize
 {
     let end = at + decimal_length(x);
     let mut left = x;
-    let mut i = end - 1;
-    while 10 <= left {
-        buffer[i] = (48 + left % 10) as u8;
-        left = left / 10;
-        i -= 1;
+    for i in (at..end).rev() {
+        buffer[i] = b'0' + (left % 10) as u8;
+        left /= 10;
     }
-    buffer[i] = (48 + left) as u8;
     end
 }

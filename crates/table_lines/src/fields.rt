@@ -6,20 +6,11 @@ ghost use Rattle.table_lines.specs.Steps.{Put, Room};
 
 use crate::decimal::put_decimal;
 
-pub fn wide(x: u32) -> usize
-    ensures { result ≡ x }
-{
-    x as usize
-}
-
 // The instant of task t, from the starts or the finishes; 0 past the last task.
 pub fn instant_of(instants: &[u32], t: usize) -> usize
     ensures { result ≡ entry_at instants.now t }
 {
-    if instants.len() <= t {
-        return 0;
-    }
-    wide(instants[t])
+    instants.get(t).copied().unwrap_or(0) as usize
 }
 
 // Writes a number and the byte that ends it.

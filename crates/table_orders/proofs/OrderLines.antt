@@ -32,7 +32,8 @@ order_fits : (p : Plan) (c : Constraint) → (verdict p c).number ≡ 0 → leng
 order_fits p c e =
     le_trans (le_of_eq (length_joined _ c.len))
     (le_trans (sum_le c.len _ 7 (λ i l. let m = inside l in
-    short_line (entry_at c.order i) (entry_at c.chosen i) (lt_of_lt_of_le (a.task i m) a.few_tasks) (omega (arith, a.type i m, a.few_types))))
+    let t = lt_of_lt_of_le (a.task i m) a.few_tasks in
+    short_line (entry_at c.order i) (entry_at c.chosen i) t (omega (arith, a.type i m, a.few_types))))
     (mul-le-mul_right 7 (le_trans (le_of_eq a.whole) a.few_tasks)))
   where
     a : Accepted p c

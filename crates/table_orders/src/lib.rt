@@ -4,12 +4,14 @@
 ghost use Rattle.std.specs.Prelude.{◌≡◌, ◌≤◌, length};
 ghost use Rattle.plan.specs.Rules.{most_tasks};
 ghost use Rattle.plan.specs.Refusals.{refused};
-ghost use Rattle.table_orders.specs.OrderTable.{order_buffer_after, order_line, order_lines, order_tabled, order_text_of};
+ghost use Rattle.table_orders.specs.OrderTable.{order_buffer_after, order_line, order_tabled, order_text_of};
 ghost use Rattle.table_lines.specs.Steps.{Outcome, Put, Room};
 
-use plan::{MOST_TASKS, Plan};
+use plan::{Constraint, Plan, Verdict};
 use proposal_theory::Proposal;
-use table_lines::{Written, decimal_length, put_pair};
+use table_lines::{
+    Written, accepted, decimal_length, fits, put_bytes, put_each, put_pair, total_length,
+};
 
 // Bytes enough for the C lines of every proposal.
 pub const ORDER_ROOM: usize = 448;
@@ -19,10 +21,8 @@ fn put_entry(buffer: &mut [u8], at: usize, t: usize, k: usize) -> usize
     requires { Room buffer.old at (order_line t k) }
     ensures { Put buffer.old at (order_line t k) buffer.new result }
 {
-    buffer[at] = b'C';
-    let tab = at + 1;
-    buffer[tab] = b'\t';
-    put_pair(buffer, tab + 1, t, k, b'\n')
+    let next = put_bytes(buffer, at, b"C\t");
+    put_pair(buffer, next, t, k, b'\n')
 }
 
 fn entry_length(t: usize, k: usize) -> usize
@@ -31,73 +31,35 @@ fn entry_length(t: usize, k: usize) -> usize
     decimal_length(t) + decimal_length(k) + 4
 }
 
-// How many bytes the lines of the first `len` positions have.
-fn order_length<'a>(
-    order: &'a [usize; MOST_TASKS],
-    chosen: &'a [usize; MOST_TASKS],
-    len: usize,
-) -> usize
-    requires { len ≤ most_tasks }
-    ensures { result ≡ length (order_lines order.now chosen.now len) }
+// How many bytes the lines of all positions have.
+fn order_length(c: &Constraint) -> usize
+    requires { c.now.len ≤ most_tasks }
+    ensures { result ≡ length (order_text_of c.now) }
 {
-    let mut n = 0;
-    let mut i = 0;
-    while i < len {
-        n += entry_length(order[i], chosen[i]);
-        i += 1;
-    }
-    n
+    total_length(c.len, |i| entry_length(c.order[i], c.chosen[i]))
 }
 
 // Writes these lines from the start of the buffer on.
-fn put_order<'a>(
-    order: &'a [usize; MOST_TASKS],
-    chosen: &'a [usize; MOST_TASKS],
-    len: usize,
-    buffer: &mut [u8],
-) -> usize
-    requires { (len ≤ most_tasks) × Room buffer.old 0 (order_lines order.now chosen.now len) }
-    ensures { Put buffer.old 0 (order_lines order.now chosen.now len) buffer.new result }
+fn put_order(c: &Constraint, buffer: &mut [u8]) -> usize
+    requires { (c.now.len ≤ most_tasks) × Room buffer.old 0 (order_text_of c.now) }
+    ensures { Put buffer.old 0 (order_text_of c.now) buffer.new result }
 {
-    let mut at = 0;
-    let mut i = 0;
-    while i < len {
-        at = put_entry(buffer, at, order[i], chosen[i]);
-        i += 1;
-    }
-    at
+    put_each(
+        buffer,
+        c.len,
+        |buffer, at, i| put_entry(buffer, at, c.order[i], c.chosen[i]),
+    )
 }
 
-// The lines of a proposal: its refusal, or 19 where the buffer is too short, or they are written.
-fn write_order(a: Proposal, buffer: &mut [u8]) -> Written
-    requires { a.constraint.len ≤ most_tasks }
-    ensures { Outcome (refused a.number a.place) (order_text_of a.constraint) buffer.old result buffer.new }
+// The lines of a proposal: its refusal, or 19 where the buffer is too short, or the bytes of the lines that are written.
+fn write_order(a: &Proposal, buffer: &mut [u8]) -> Result<usize, Verdict>
+    requires { a.now.constraint.len ≤ most_tasks }
+    ensures { Outcome (refused a.now.number a.now.place) (order_text_of a.now.constraint) buffer.old result buffer.new }
 {
-    let number = a.number;
-    let place = a.place;
-    if number != 0 {
-        return Written {
-            number,
-            place,
-            written: 0,
-        };
-    }
-    let c = a.constraint;
-    let len = c.len;
-    let needed = order_length(&c.order, &c.chosen, len);
-    if buffer.len() < needed {
-        return Written {
-            number: 19,
-            place: needed,
-            written: 0,
-        };
-    }
-    let written = put_order(&c.order, &c.chosen, len, buffer);
-    Written {
-        number: 0,
-        place: 0,
-        written,
-    }
+    accepted(a.number, a.place)?;
+    let c = &a.constraint;
+    fits(order_length(c), buffer.len())?;
+    Ok(put_order(c, buffer))
 }
 
 // The C lines of the order that the bench proposes for a plan.
@@ -106,5 +68,5 @@ pub fn proposal_table(p: Plan, buffer: &mut [u8]) -> Written
         × (buffer.new ≡ order_buffer_after p buffer.old) }
 {
     let a = proposal::propose(p);
-    write_order(a, buffer)
+    Written::from(write_order(&a, buffer))
 }

@@ -1,6 +1,8 @@
 -- The lines of a run (document 01, "Timetable and program"). Assumes nothing.
 use Rattle.std.specs.Prelude.{List, ◌∷◌, ◌++◌, ℕ}
+use Rattle.plan.specs.declared.Constraint.{Constraint}
 use Rattle.plan.specs.Refusals.{entry_at}
+use Rattle.simulation_run.specs.declared.Simulation.{Simulation}
 use Rattle.table_lines.specs.Texts.{field, joined}
 
 -- "task, type, start, finish"
@@ -19,3 +21,11 @@ lines order chosen starts finishes = joined (line_at order chosen starts finishe
 -- "Last, `R` and the response"
 unfoldable pub text_by : List ℕ → List ℕ → List ℕ → List ℕ → ℕ → ℕ → List ℕ
 text_by order chosen starts finishes n response = lines order chosen starts finishes n ++ 82 ∷ 9 ∷ field response 10
+
+-- ---- of a constraint and its run
+
+abbrev pub lines_of : Constraint → Simulation → ℕ → List ℕ
+lines_of c s = lines c.order c.chosen s.starts s.finishes
+
+abbrev pub text_of : Constraint → Simulation → List ℕ
+text_of c s = text_by c.order c.chosen s.starts s.finishes c.len s.response

@@ -1,14 +1,17 @@
-// The lines of a timetable, from the arrays of a run.
+// The lines of a timetable, from a constraint and its run.
 #![tactic(auto)]
 
 ghost use Rattle.std.specs.Prelude.{◌≡◌, ◌∷◌, ◌*◌, ◌≤◌, length};
 ghost use Rattle.plan.specs.Rules.{most_tasks};
 ghost use Rattle.table_lines.specs.Texts.{field};
-ghost use Rattle.table_run_lines.specs.RunText.{line, lines, text_by};
+ghost use Rattle.table_run_lines.specs.RunText.{line, lines_of, text_of};
 ghost use Rattle.table_lines.specs.Steps.{Put, Room};
 
-use plan::MOST_TASKS;
-use table_lines::{decimal_length, instant_of, put_field, put_pair};
+use plan::Constraint;
+use simulation_run::Simulation;
+use table_lines::{
+    decimal_length, instant_of, put_bytes, put_each, put_field, put_pair, total_length,
+};
 
 // Writes the line of a task t on type k that starts at s and finishes at f.
 fn put_line(buffer: &mut [u8], at: usize, t: usize, k: usize, s: usize, f: usize) -> usize
@@ -25,56 +28,35 @@ fn line_length(t: usize, k: usize, s: usize, f: usize) -> usize
     decimal_length(t) + decimal_length(k) + decimal_length(s) + decimal_length(f) + 4
 }
 
-// How many bytes the lines of the first `len` positions have.
-fn lines_length<'a>(
-    order: &'a [usize; MOST_TASKS],
-    chosen: &'a [usize; MOST_TASKS],
-    starts: &'a [u32],
-    finishes: &'a [u32],
-    len: usize,
-) -> usize
-    requires { len ≤ most_tasks }
-    ensures { (result ≤ len * 84)
-        × (result ≡ length (lines order.now chosen.now starts.now finishes.now len)) }
+// How many bytes the lines of all positions have.
+fn lines_length(c: &Constraint, s: &Simulation) -> usize
+    requires { c.now.len ≤ most_tasks }
+    ensures { (result ≤ c.now.len * 85) × (result ≡ length (lines_of c.now s.now c.now.len)) }
 {
-    let mut n = 0;
-    let mut i = 0;
-    while i < len {
-        let t = order[i];
-        let k = chosen[i];
-        let s = instant_of(starts, t);
-        let f = instant_of(finishes, t);
-        n += line_length(t, k, s, f);
-        i += 1;
-    }
-    n
+    total_length(c.len, |i| {
+        let t = c.order[i];
+        let k = c.chosen[i];
+        line_length(t, k, instant_of(&s.starts, t), instant_of(&s.finishes, t))
+    })
 }
 
 // Writes these lines from the start of the buffer on.
-fn put_lines<'a>(
-    order: &'a [usize; MOST_TASKS],
-    chosen: &'a [usize; MOST_TASKS],
-    starts: &'a [u32],
-    finishes: &'a [u32],
-    len: usize,
-    buffer: &mut [u8],
-) -> usize
-    requires { (len ≤ most_tasks) × Room buffer.old 0 (lines order.now chosen.now starts.now finishes.now len) }
-    ensures { Put buffer.old 0
-        (lines order.now chosen.now starts.now finishes.now len)
-        buffer.new result }
+fn put_lines(c: &Constraint, s: &Simulation, buffer: &mut [u8]) -> usize
+    requires { (c.now.len ≤ most_tasks) × Room buffer.old 0 (lines_of c.now s.now c.now.len) }
+    ensures { Put buffer.old 0 (lines_of c.now s.now c.now.len) buffer.new result }
 {
-    let mut at = 0;
-    let mut i = 0;
-    while i < len {
-        let t = order[i];
-        let k = chosen[i];
-        let s = instant_of(starts, t);
-        let f = instant_of(finishes, t);
-        at = put_line(buffer, at, t, k, s, f);
-        i += 1;
-    }
-    at
+    put_each(buffer, c.len, |buffer, at, i| {
+        let t = c.order[i];
+        let k = c.chosen[i];
+        put_line(
+            buffer,
+            at,
+            t,
+            k,
+            instant_of(&s.starts, t),
+            instant_of(&s.finishes, t),
+        )
+    })
 }
 
 // The last line: `R` and the response.
@@ -82,44 +64,23 @@ fn put_last(buffer: &mut [u8], at: usize, response: usize) -> usize
     requires { Room buffer.old at (82 ∷ 9 ∷ field response 10) }
     ensures { Put buffer.old at (82 ∷ 9 ∷ field response 10) buffer.new result }
 {
-    buffer[at] = b'R';
-    let tab = at + 1;
-    buffer[tab] = b'\t';
-    put_field(buffer, tab + 1, response, b'\n')
+    let next = put_bytes(buffer, at, b"R\t");
+    put_field(buffer, next, response, b'\n')
 }
 
 // How many bytes the whole text has.
-pub fn text_length<'a>(
-    order: &'a [usize; MOST_TASKS],
-    chosen: &'a [usize; MOST_TASKS],
-    starts: &'a [u32],
-    finishes: &'a [u32],
-    len: usize,
-    response: usize,
-) -> usize
-    requires { len ≤ most_tasks }
-    ensures { result ≡ length
-        (text_by order.now chosen.now starts.now finishes.now len response) }
+pub fn text_length(c: &Constraint, s: &Simulation) -> usize
+    requires { c.now.len ≤ most_tasks }
+    ensures { result ≡ length (text_of c.now s.now) }
 {
-    lines_length(order, chosen, starts, finishes, len) + decimal_length(response) + 3
+    lines_length(c, s) + decimal_length(s.response as usize) + 3
 }
 
 // Writes the whole text from the start of the buffer on, and answers its length.
-pub fn put_text<'a>(
-    order: &'a [usize; MOST_TASKS],
-    chosen: &'a [usize; MOST_TASKS],
-    starts: &'a [u32],
-    finishes: &'a [u32],
-    len: usize,
-    response: usize,
-    buffer: &mut [u8],
-) -> usize
-    requires { (len ≤ most_tasks)
-        × Room buffer.old 0 (text_by order.now chosen.now starts.now finishes.now len response) }
-    ensures { Put buffer.old 0
-        (text_by order.now chosen.now starts.now finishes.now len response)
-        buffer.new result }
+pub fn put_text(c: &Constraint, s: &Simulation, buffer: &mut [u8]) -> usize
+    requires { (c.now.len ≤ most_tasks) × Room buffer.old 0 (text_of c.now s.now) }
+    ensures { Put buffer.old 0 (text_of c.now s.now) buffer.new result }
 {
-    let at = put_lines(order, chosen, starts, finishes, len, buffer);
-    put_last(buffer, at, response)
+    let at = put_lines(c, s, buffer);
+    put_last(buffer, at, s.response as usize)
 }

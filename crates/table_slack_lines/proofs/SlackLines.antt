@@ -23,7 +23,7 @@ module _ (deadlines finishes : List ℕ) (slacks : List ℤ) (t : ℕ) {d : ℕ}
   not_due z = rw (le-ltb 0 (deadline_of deadlines t) (omega arith)) refl
 
   -- from what the loops find: the deadline, the finish and the slack
-  pub due : (d ≡ 0 → ⊥) → {k f : ℕ} {y : ℤ} {x : Parts} → k ≡ d → f ≡ entry_at finishes t → x ≡ parts_of y
-      → y ≡ slack_at slacks t → slack_line_of deadlines finishes slacks t ≡ slack_line t k f x
+  pub due : (d ≡ 0 → ⊥) → {f : ℕ} {y : ℤ} {x : Parts} → f ≡ entry_at finishes t → x ≡ parts_of y → y ≡ slack_at slacks t
+      → slack_line_of deadlines finishes slacks t ≡ slack_line t d f x
   unfolding slack_line_of
-  due g p q r s = rw (lt-ltb 0 (deadline_of deadlines t) (omega (arith, g)), p, q, r, s, e) refl
+  due g q r s = rw (lt-ltb 0 (deadline_of deadlines t) (omega (arith, g)), q, r, s, e) refl

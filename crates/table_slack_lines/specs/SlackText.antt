@@ -1,7 +1,10 @@
 -- The margins as text (document 02, 2), in the format that docs/DECISIONS.md fixes and the quotes name. Assumes nothing.
 use Rattle.std.specs.Prelude.{Bool, cond, List, [], ◌∷◌, ◌++◌, ℕ, ℤ}
+use Rattle.plan.specs.declared.Plan.{Plan}
 use Rattle.plan.specs.Rules.{most_tasks, deadline_of}
 use Rattle.plan.specs.Refusals.{entry_at}
+use Rattle.simulation_run.specs.declared.Simulation.{Simulation}
+use Rattle.slack.specs.declared.Slacks.{Slacks}
 use Rattle.slack.specs.declared.Parts.{Parts}
 use Rattle.slack.specs.Margins.{is_due, slack_at, parts_of}
 use Rattle.table_lines.specs.Texts.{field, joined}
@@ -35,3 +38,7 @@ slack_lines deadlines finishes slacks = joined (slack_line_of deadlines finishes
 unfoldable pub slack_text_by : List ℕ → List ℕ → List ℤ → Bool → Parts → ℕ → List ℕ
 slack_text_by deadlines finishes slacks any least t =
     cond any (slack_lines deadlines finishes slacks ++ least_line least t) no_deadlines
+
+-- of a plan, its run and the slacks in it
+abbrev pub slacks_text : Plan → Simulation → Slacks → List ℕ
+slacks_text p s r = slack_text_by p.deadlines s.finishes r.slacks r.any (parts_of r.least) r.task

@@ -1,5 +1,3 @@
--- The laws of the text of margins, in reading order.
--- the text from what is found of a run
-pub mod SlackText
+-- The laws of the text of margins.
 -- no text of margins is longer than there is room for
 pub mod SlackRoom

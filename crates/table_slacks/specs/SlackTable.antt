@@ -5,16 +5,14 @@ use Rattle.plan.specs.declared.Constraint.{Constraint}
 use Rattle.plan.specs.Refusals.{refused}
 use Rattle.simulation_run.specs.declared.Simulation.{Simulation}
 use Rattle.simulation.specs.Simulated.{worst_case}
-use Rattle.slack.specs.Margins.{parts_of, slacks_in}
+use Rattle.slack.specs.Margins.{slacks_in}
 use Rattle.table_lines.specs.declared.Written.{Written}
 use Rattle.table_lines.specs.Texts.{answered, bytes_after}
-use Rattle.table_slack_lines.specs.SlackText.{slack_text_by}
+use Rattle.table_slack_lines.specs.SlackText.{slacks_text}
 
 -- the margins of a plan in a run that is accepted
 abbrev pub slack_text_of : Plan → Simulation → List ℕ
-slack_text_of p s =
-    let r = slacks_in p s in
-    slack_text_by p.deadlines s.finishes r.slacks r.any (parts_of r.least) r.task
+slack_text_of p s = slacks_text p s (slacks_in p s)
 
 -- bytes enough for every such text
 abbrev pub slack_room : ℕ

@@ -7,9 +7,9 @@ ghost use Rattle.table_lines.specs.Steps.{Outcome};
 ghost use Rattle.table_slacks.specs.SlackTable.{slack_buffer_after, slack_tabled, slack_text_of};
 
 use lengths::slacks_length;
-use plan::{Constraint, Plan};
+use plan::{Constraint, Plan, Verdict};
 use simulation::Simulation;
-use table_lines::Written;
+use table_lines::{Written, accepted, fits};
 use table_slack_lines::put_slacks;
 
 mod lengths;
@@ -17,45 +17,14 @@ mod lengths;
 // Bytes enough for every text of margins.
 pub const SLACK_ROOM: usize = 1935;
 
-// The margins in a run: its refusal, or 19 where the buffer is too short, or the text is written.
-fn write_slacks(p: Plan, s: Simulation, buffer: &mut [u8]) -> Written
-    ensures { Outcome (refused s.number s.place) (slack_text_of p s) buffer.old result buffer.new }
+// The margins in a run: its refusal, or 19 where the buffer is too short, or the bytes of the text that is written.
+fn write_slacks(p: &Plan, s: &Simulation, buffer: &mut [u8]) -> Result<usize, Verdict>
+    ensures { Outcome (refused s.now.number s.now.place) (slack_text_of p.now s.now) buffer.old result buffer.new }
 {
-    let number = s.number;
-    let place = s.place;
-    if number != 0 {
-        return Written {
-            number,
-            place,
-            written: 0,
-        };
-    }
+    accepted(s.number, s.place)?;
     let r = slack::slacks_in(p, s);
-    let any = r.any;
-    let task = r.task;
-    let least = slack::parts_of(r.least);
-    let needed = slacks_length(&p.deadlines, &s.finishes, &r.slacks, any, least, task);
-    if buffer.len() < needed {
-        return Written {
-            number: 19,
-            place: needed,
-            written: 0,
-        };
-    }
-    let written = put_slacks(
-        &p.deadlines,
-        &s.finishes,
-        &r.slacks,
-        any,
-        least,
-        task,
-        buffer,
-    );
-    Written {
-        number: 0,
-        place: 0,
-        written,
-    }
+    fits(slacks_length(p, s, &r), buffer.len())?;
+    Ok(put_slacks(p, s, &r, buffer))
 }
 
 // The margins in the run in which each task takes its worst time.
@@ -64,5 +33,5 @@ pub fn slack_table(p: Plan, c: Constraint, buffer: &mut [u8]) -> Written
         × (buffer.new ≡ slack_buffer_after p c buffer.old) }
 {
     let s = simulation::bound(p, c);
-    write_slacks(p, s, buffer)
+    Written::from(write_slacks(&p, &s, buffer))
 }

@@ -5,6 +5,8 @@ pub mod Truth
 pub mod Bounded
 -- the first that passes
 pub mod Search
+-- what std's `find` over the numbers below a bound answers
+pub mod Found
 -- loops that gather an answer
 pub mod Upto
 -- n different numbers below n are all of them
@@ -15,6 +17,8 @@ pub mod Pigeons
 pub mod Members
 -- lists by index
 pub mod Tables
+-- arrays of what a function gives of each index
+pub mod Made
 -- an order by a key, and then by number
 pub mod Keyed
 -- places in an order: how many stand before

@@ -159,6 +159,12 @@ has_set_of (suc n) p t l = rw (has_grown (set_of n p) n t (p n) l, has_set_of n 
               (λ f. lt-ltb t n (omega (arith, ltb-true t (suc n) f, eqb-false n t e))),
         )
 
+-- a loop's next step
+pub set_of_next : (n : ℕ) (p : ℕ → Bool) {r s : ℕ} → s ≡ set_of n p → r ≡ cond (p n) (insert s n) s → r ≡ set_of (n + 1) p
+unfolding set_of
+set_of_next n p e f =
+    f ∙ ap (λ (s : ℕ). cond (p n) (insert s n) s) e ∙ ap (λ (k : ℕ). set_of k p) (sym (add-one n))
+
 pub set_of_small : (n : ℕ) (p : ℕ → Bool) → n ≤ width → set_of n p < 2 ^ width
 unfolding set_of insert
 set_of_small zero p l = pow_pos width

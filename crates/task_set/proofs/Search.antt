@@ -6,9 +6,11 @@ use Prim.Native.Nat.{ℕ, zero, suc, ◌+◌, ◌≤◌, ◌<◌, zero-le, suc-l
 use native.Mathlib.Nat.{eq-or-lt_of_le, le_of_suc-le-suc, not-suc-le-zero, le_refl, lt_of_lt_of_le}
 use native.Mathlib.Omega.{arith}
 use borrow.Author.Count.{below_more}
-use borrow.Author.Tests.{ltb-true, ltb-false}
+use borrow.Author.Tests.{lt-ltb, le-ltb, ltb-true, ltb-false}
 use lib.Dec.{ltb}
-use Rattle.task_set.specs.Bounded.{any, first}
+use Rattle.std.specs.Prelude.{Some, None}
+use Rattle.std.proofs.lemmas.Option.{cond_some, none-some}
+use Rattle.task_set.specs.Bounded.{any, first, found}
 use Rattle.task_set.proofs.Truth.{clash, by_test, same}
 use Rattle.task_set.proofs.Bounded.{any_intro, any_elim}
 
@@ -92,6 +94,27 @@ search_ended {n} {p} {i} h l =
       searched = record { within = le_refl n; before = λ j m. h.before j (lt_of_lt_of_le m l) };
       passes = λ m. absurd (omega arith);
     })
+
+-- the end of the search as `found` has it
+pub found_at : {n : ℕ} {p : ℕ → Bool} {i : ℕ} → Searched n p i → i < n → p i ≡ true → Some i ≡ found n p
+unfolding found
+found_at {n} {p} {i} h l e = rw (sym (search_found h e), lt-ltb i n l) refl
+
+pub found_none : {n : ℕ} {p : ℕ → Bool} {i : ℕ} → Searched n p i → n ≤ i → None ≡ found n p
+unfolding found
+found_none {n} {p} {i} h l = rw (sym (search_ended h l), le-ltb n n (le_refl n)) refl
+
+-- what `found` tells of `first`
+pub found_some : (n : ℕ) (p : ℕ → Bool) {i : ℕ} → Some i ≡ found n p → (i ≡ first n p) × (i < n)
+unfolding found
+found_some n p {i} e =
+    let q = cond_some (ltb (first n p) n) (first n p) i (sym e) in
+    (sym q.1, rw (sym q.1) (ltb-true (first n p) n q.0))
+
+pub found_not : (n : ℕ) (p : ℕ → Bool) → None ≡ found n p → n ≤ first n p
+unfolding found
+found_not n p e =
+    by_test (ltb (first n p) n) (λ f. absurd (none-some (first n p) (rw f at e))) (λ f. ltb-false (first n p) n f)
 
 -- nothing passes at all
 pub first_absent : (n : ℕ) (p : ℕ → Bool) → ((i : ℕ) → i < n → p i ≡ false) → n ≡ first n p

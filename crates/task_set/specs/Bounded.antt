@@ -1,5 +1,5 @@
 -- Tests, counts and searches over the numbers below a bound. Assumes nothing.
-use Rattle.std.specs.Prelude.{Bool, true, false, cond, ◌&&◌, ◌||◌, not, List, [], ◌∷◌, ℕ, zero, suc, ◌+◌}
+use Rattle.std.specs.Prelude.{Bool, true, false, cond, ◌&&◌, ◌||◌, not, List, [], ◌∷◌, ℕ, zero, suc, ◌+◌, ltb, Option, Some, None}
 
 -- a holds only where b does
 abbrev pub implies : Bool → Bool → Bool
@@ -24,6 +24,10 @@ count (suc n) p = count n p + cond (p n) 1 0
 unfoldable pub first : ℕ → (ℕ → Bool) → ℕ
 first zero p = 0
 first (suc n) p = cond (p 0) 0 (suc (first n (λ i. p (suc i))))
+
+-- the same, if there is one
+unfoldable pub found : ℕ → (ℕ → Bool) → Option ℕ
+found n p = cond (ltb (first n p) n) (Some (first n p)) None
 
 -- the values of f at 0, .., n - 1
 unfoldable pub tabulate : {A : Type 0} → ℕ → (ℕ → A) → List A

@@ -1,39 +1,33 @@
 -- The kinds of lines, the faults 5 to 7 of a line, and its first fault (document 01, "The plan text", and "When an operation says no"). Assumes nothing.
-use Rattle.std.specs.Prelude.{Bool, false, cond, ◌&&◌, not, List, ℕ, eqb, leb, ltb}
+use Rattle.std.specs.Prelude.{Bool, false, cond, ◌&&◌, not, List, Option, None, Some, ℕ, eqb, leb, ltb}
 use Rattle.task_set.specs.Sets.{has}
 use Rattle.plan.specs.Rules.{time_of, predecessors_of, deadline_of}
 use Rattle.text_form.specs.declared.Line.{Line}
 use Rattle.text_form.specs.declared.Line.TheVariants.{Units, Times, Arrow, Deadline, Release, Choice}
 use Rattle.text_range.specs.Ranges.{out_of_range, at_odds}
+use Rattle.text_fault.specs.declared.Kind.{Kind}
+use Rattle.text_fault.specs.declared.Kind.TheVariants.{U, T, A, D, N, C}
 use Rattle.text_fault.specs.declared.Seen.{Seen}
+use Rattle.text_fault.specs.declared.Fault.{Fault}
+use Rattle.text_fault.specs.declared.Fault.TheVariants.{OutOfRange, AtOdds, TooLate, Unknown, Repeated}
 
--- the kinds of lines: "All U lines precede T, T precede A, A precede C"; D "after the A lines and before the C lines"
--- (document 02, 2), and N "after D and before C" (document 02, 6)
-abbrev pub kind_u : ℕ
-kind_u = 0
+-- the place of a kind among the kinds: "All U lines precede T, T precede A, A precede C"; D "after the A lines and before the
+-- C lines" (document 02, 2), and N "after D and before C" (document 02, 6)
+abbrev pub kind_rank : Kind → ℕ
+kind_rank U = 0
+kind_rank T = 1
+kind_rank A = 2
+kind_rank D = 3
+kind_rank N = 4
+kind_rank C = 5
 
-abbrev pub kind_t : ℕ
-kind_t = 1
-
-abbrev pub kind_a : ℕ
-kind_a = 2
-
-abbrev pub kind_d : ℕ
-kind_d = 3
-
-abbrev pub kind_n : ℕ
-kind_n = 4
-
-abbrev pub kind_c : ℕ
-kind_c = 5
-
-abbrev pub kind_of : Line → ℕ
-kind_of (Units k n) = kind_u
-kind_of (Times t k b w) = kind_t
-kind_of (Arrow from to) = kind_a
-kind_of (Deadline t d) = kind_d
-kind_of (Release t i) = kind_n
-kind_of (Choice t k) = kind_c
+abbrev pub kind_of : Line → Kind
+kind_of (Units k n) = U
+kind_of (Times t k b w) = T
+kind_of (Arrow from to) = A
+kind_of (Deadline t d) = D
+kind_of (Release t i) = N
+kind_of (Choice t k) = C
 
 -- ---- the faults
 
@@ -57,12 +51,23 @@ repeated wcet predecessors deadlines seen (Deadline t d) = not (eqb (deadline_of
 repeated wcet predecessors deadlines seen (Release t i) = has seen.released t
 repeated wcet predecessors deadlines seen (Choice t k) = has seen.listed t
 
--- the first fault, and 0 where there is none; 5 is "a kind after a later kind"
+-- the number of the first fault, and 0 where there is none; 5 is "a kind after a later kind"
 unfoldable pub first_fault : ℕ → List ℕ → List ℕ → List ℕ → Seen → Line → ℕ
 first_fault types wcet predecessors deadlines seen line =
     cond (out_of_range line) 3
     (cond (at_odds line) 4
-    (cond (ltb (kind_of line) seen.kind) 5
+    (cond (ltb (kind_rank (kind_of line)) (kind_rank seen.kind)) 5
     (cond (unknown types seen.timed line) 6
     (cond (repeated wcet predecessors deadlines seen line) 7
     0))))
+
+abbrev pub fault_number : Fault → ℕ
+fault_number OutOfRange = 3
+fault_number AtOdds = 4
+fault_number TooLate = 5
+fault_number Unknown = 6
+fault_number Repeated = 7
+
+abbrev pub number_of : Option Fault → ℕ
+number_of None = 0
+number_of (Some fault) = fault_number fault

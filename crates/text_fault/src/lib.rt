@@ -1,45 +1,67 @@
 // The faults 3 to 7 of a line.
 #![tactic(auto)]
 
-ghost use Rattle.std.specs.Prelude.{◌≡◌, cond};
-ghost use Rattle.text_fault.specs.Faults.{first_fault, kind_of, repeated, unknown};
+ghost use Rattle.std.specs.Prelude.{◌≡◌};
+ghost use Rattle.text_fault.specs.Faults.{fault_number, first_fault, kind_of, number_of, repeated, unknown};
 
-use plan::{MOST_PAIRS, MOST_TASKS};
+use plan::Plan;
 use text_form::Line;
 use text_range::{at_odds, out_of_range};
 
-// The kinds of lines, in the order in which they stand in a text.
-pub const KIND_U: u32 = 0;
-
-pub const KIND_T: u32 = 1;
-
-pub const KIND_A: u32 = 2;
-
-pub const KIND_D: u32 = 3;
-
-pub const KIND_N: u32 = 4;
-
-pub const KIND_C: u32 = 5;
+// The kinds of lines, by their letters, in the order in which they stand in a text.
+#[derive(Clone, Copy, Debug, PartialEq, Eq, PartialOrd, Ord)]
+pub enum Kind {
+    U,
+    T,
+    A,
+    D,
+    N,
+    C,
+}
 
 // Of the lines before: the kind of the last, and the tasks with a T line, with an N line and with a C line.
 #[derive(Clone, Copy)]
 pub struct Seen {
-    pub kind: u32,
+    pub kind: Kind,
     pub timed: u64,
     pub released: u64,
     pub listed: u64,
 }
 
-pub fn kind_of(line: Line) -> u32
+// What is wrong with a line that has one of the forms.
+#[derive(Clone, Copy, Debug, PartialEq, Eq)]
+pub enum Fault {
+    OutOfRange,
+    AtOdds,
+    TooLate,
+    Unknown,
+    Repeated,
+}
+
+impl Fault {
+    pub fn number(self) -> u32
+        ensures { result ≡ fault_number self }
+    {
+        match self {
+            Fault::OutOfRange => 3,
+            Fault::AtOdds => 4,
+            Fault::TooLate => 5,
+            Fault::Unknown => 6,
+            Fault::Repeated => 7,
+        }
+    }
+}
+
+pub fn kind_of(line: Line) -> Kind
     ensures { result ≡ kind_of line }
 {
     match line {
-        Line::Units(_, _) => KIND_U,
-        Line::Times(_, _, _, _) => KIND_T,
-        Line::Arrow(_, _) => KIND_A,
-        Line::Deadline(_, _) => KIND_D,
-        Line::Release(_, _) => KIND_N,
-        Line::Choice(_, _) => KIND_C,
+        Line::Units(_, _) => Kind::U,
+        Line::Times(_, _, _, _) => Kind::T,
+        Line::Arrow(_, _) => Kind::A,
+        Line::Deadline(_, _) => Kind::D,
+        Line::Release(_, _) => Kind::N,
+        Line::Choice(_, _) => Kind::C,
     }
 }
 
@@ -52,64 +74,48 @@ fn unknown(types: usize, timed: u64, line: Line) -> bool
         Line::Arrow(from, to) => {
             !(task_set::contains(timed, from as usize) & task_set::contains(timed, to as usize))
         }
-        Line::Deadline(t, _) => !task_set::contains(timed, t as usize),
-        Line::Release(t, _) => !task_set::contains(timed, t as usize),
-        Line::Choice(t, _) => !task_set::contains(timed, t as usize),
+        Line::Deadline(t, _) | Line::Release(t, _) | Line::Choice(t, _) => {
+            !task_set::contains(timed, t as usize)
+        }
     }
 }
 
-fn repeated<'a>(
-    wcet: &'a [u32; MOST_PAIRS],
-    predecessors: &'a [u64; MOST_TASKS],
-    deadlines: &'a [u32; MOST_TASKS],
-    seen: Seen,
-    line: Line,
-) -> bool
-    ensures { result
-        ≡ repeated wcet.now predecessors.now deadlines.now seen line }
+fn repeated(p: &Plan, seen: Seen, line: Line) -> bool
+    ensures { result ≡ repeated p.now.wcet p.now.predecessors p.now.deadlines seen line }
 {
     match line {
         Line::Units(_, _) => false,
-        Line::Times(t, k, _, _) => plan::time_of(wcet, t as usize, k as usize) != 0,
+        Line::Times(t, k, _, _) => plan::time_of(&p.wcet, t as usize, k as usize) != 0,
         Line::Arrow(from, to) => {
-            let before = plan::predecessors_of(predecessors, to as usize);
+            let before = plan::predecessors_of(&p.predecessors, to as usize);
             task_set::contains(before, from as usize)
         }
-        Line::Deadline(t, _) => plan::deadline_of(deadlines, t as usize) != 0,
+        Line::Deadline(t, _) => plan::deadline_of(&p.deadlines, t as usize) != 0,
         Line::Release(t, _) => task_set::contains(seen.released, t as usize),
         Line::Choice(t, _) => task_set::contains(seen.listed, t as usize),
     }
 }
 
-fn unless(bad: bool, number: u32, rest: u32) -> u32
-    ensures { result ≡ cond bad number rest }
+// The first fault of a line, after what was read.
+#[tactic(auto, unfolding(crate::specs::Faults::first_fault))]
+pub fn line_fault(p: &Plan, seen: Seen, line: Line) -> Option<Fault>
+    ensures { number_of result
+        ≡ first_fault p.now.types p.now.wcet p.now.predecessors p.now.deadlines seen line }
 {
-    if bad {
-        return number;
+    if out_of_range(line) {
+        return Some(Fault::OutOfRange);
     }
-    rest
-}
-
-// The first fault of a line, and 0 where it has none.
-pub fn line_fault<'a>(
-    types: usize,
-    wcet: &'a [u32; MOST_PAIRS],
-    predecessors: &'a [u64; MOST_TASKS],
-    deadlines: &'a [u32; MOST_TASKS],
-    seen: Seen,
-    line: Line,
-) -> u32
-    ensures { result
-        ≡ first_fault types wcet.now predecessors.now deadlines.now seen line }
-{
-    let outside = out_of_range(line);
-    let odd = at_odds(line);
-    let late = kind_of(line) < seen.kind;
-    let absent = unknown(types, seen.timed, line);
-    let again = repeated(wcet, predecessors, deadlines, seen, line);
-    let fault = unless(again, 7, 0);
-    let fault = unless(absent, 6, fault);
-    let fault = unless(late, 5, fault);
-    let fault = unless(odd, 4, fault);
-    unless(outside, 3, fault)
+    if at_odds(line) {
+        return Some(Fault::AtOdds);
+    }
+    if kind_of(line) < seen.kind {
+        return Some(Fault::TooLate);
+    }
+    if unknown(p.types, seen.timed, line) {
+        return Some(Fault::Unknown);
+    }
+    if repeated(p, seen, line) {
+        return Some(Fault::Repeated);
+    }
+    None
 }

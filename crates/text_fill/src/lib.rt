@@ -1,160 +1,91 @@
-// What a line without a fault adds, one function for each thing that is kept.
+// What a line without a fault adds to what was read.
 #![tactic(auto)]
 
 ghost use Rattle.std.specs.Prelude.{◌≡◌, cond, false, ℕ, ◌+◌, ◌≤◌, ◌<◌, max};
 ghost use Rattle.task_set.specs.Sets.{insert};
 ghost use Rattle.plan.specs.Rules.{most_tasks, pair_index, predecessors_of};
-ghost use Rattle.text_fault.specs.Faults.{kind_a, kind_c, kind_n, kind_of, kind_t, kind_u};
+ghost use Rattle.text_fault.specs.Faults.{kind_of};
 ghost use Rattle.text_range.specs.Ranges.{out_of_range};
 ghost use Rattle.text_fill.specs.Adding.{counted, is_kind, named, number, stored};
 ghost use Rattle.text_form.specs.Form.{most_bytes};
 
-use plan::{MOST_PAIRS, MOST_TASKS, MOST_TYPES};
-use text_fault::{KIND_C, KIND_N, KIND_T, Seen, kind_of};
+use plan::{Constraint, Plan};
+use text_fault::{Kind, Seen, kind_of};
 use text_form::Line;
 
-// The first number of a line.
-fn first(line: Line) -> u32
-    ensures { result ≡ number line 0 }
+// To the plan: each line but a C line. Times lie task by task, as plan::pair_index has it.
+pub fn add_to_plan(p: &mut Plan, line: Line)
+    requires { (p.old.types ≤ most_bytes) × (out_of_range line ≡ false) }
+    ensures { p.new
+        ≡ record {
+          types = counted line Kind.U p.old.types;
+          units = stored line Kind.U p.old.units (number line 0) (number line 1);
+          tasks = cond (is_kind line Kind.T) (max p.old.tasks (number line 0 + 1)) p.old.tasks;
+          bcet = stored line Kind.T p.old.bcet (pair_index (number line 0) (number line 1)) (number line 2);
+          wcet = stored line Kind.T p.old.wcet (pair_index (number line 0) (number line 1)) (number line 3);
+          predecessors = stored line Kind.A p.old.predecessors (number line 1)
+              (insert (predecessors_of p.old.predecessors (number line 1)) (number line 0));
+          deadlines = stored line Kind.D p.old.deadlines (number line 0) (number line 1);
+          releases = stored line Kind.N p.old.releases (number line 0) (number line 1);
+        } }
 {
     match line {
-        Line::Units(k, _) => k,
-        Line::Times(t, _, _, _) => t,
-        Line::Arrow(from, _) => from,
-        Line::Deadline(t, _) => t,
-        Line::Release(t, _) => t,
-        Line::Choice(t, _) => t,
+        Line::Units(k, n) => {
+            p.units[k as usize] = n;
+            p.types += 1;
+        }
+        Line::Times(t, k, best, worst) => {
+            let pair = plan::pair_index(t as usize, k as usize);
+            p.bcet[pair] = best;
+            p.wcet[pair] = worst;
+            p.tasks = p.tasks.max(t as usize + 1);
+        }
+        Line::Arrow(from, to) => {
+            let before = p.predecessors[to as usize];
+            p.predecessors[to as usize] = task_set::inserted(before, from as usize);
+        }
+        Line::Deadline(t, d) => p.deadlines[t as usize] = d,
+        Line::Release(t, i) => p.releases[t as usize] = i,
+        Line::Choice(_, _) => {}
     }
 }
 
-// The second number of a line.
-fn second(line: Line) -> u32
-    ensures { result ≡ number line 1 }
+// To the constraint: a C line, where there is room for another entry.
+pub fn add_to_constraint(c: &mut Constraint, line: Line)
+    requires { (t k : ℕ) → line ≡ Line.Choice t k → c.old.len < most_tasks }
+    ensures { c.new
+        ≡ record {
+          len = counted line Kind.C c.old.len;
+          order = stored line Kind.C c.old.order c.old.len (number line 0);
+          chosen = stored line Kind.C c.old.chosen c.old.len (number line 1);
+        } }
 {
-    match line {
-        Line::Units(_, n) => n,
-        Line::Times(_, k, _, _) => k,
-        Line::Arrow(_, to) => to,
-        Line::Deadline(_, d) => d,
-        Line::Release(_, i) => i,
-        Line::Choice(_, k) => k,
+    if let Line::Choice(t, k) = line {
+        c.order[c.len] = t as usize;
+        c.chosen[c.len] = k as usize;
+        c.len += 1;
     }
 }
 
-// One more after a line of this kind.
-pub fn counted(n: usize, kind: u32, line: Line) -> usize
-    requires { n ≤ most_bytes }
-    ensures { result ≡ counted line kind n }
-{
-    if kind_of(line) == kind {
-        return n + 1;
-    }
-    n
-}
-
-// With the task that a line of this kind names first.
-fn named(tasks: u64, kind: u32, line: Line) -> u64
-    ensures { result ≡ named line kind tasks }
-{
-    if kind_of(line) == kind {
-        return task_set::inserted(tasks, first(line) as usize);
-    }
-    tasks
-}
-
+// To what was seen.
 pub fn seen(seen: Seen, line: Line) -> Seen
     ensures { result
         ≡ record {
           kind = kind_of line;
-          timed = named line kind_t seen.timed;
-          released = named line kind_n seen.released;
-          listed = named line kind_c seen.listed;
+          timed = named line Kind.T seen.timed;
+          released = named line Kind.N seen.released;
+          listed = named line Kind.C seen.listed;
         } }
 {
-    let kind = kind_of(line);
-    let timed = named(seen.timed, KIND_T, line);
-    let released = named(seen.released, KIND_N, line);
-    let listed = named(seen.listed, KIND_C, line);
-    Seen {
-        kind,
-        timed,
-        released,
-        listed,
+    let mut seen = Seen {
+        kind: kind_of(line),
+        ..seen
+    };
+    match line {
+        Line::Times(t, _, _, _) => seen.timed = task_set::inserted(seen.timed, t as usize),
+        Line::Release(t, _) => seen.released = task_set::inserted(seen.released, t as usize),
+        Line::Choice(t, _) => seen.listed = task_set::inserted(seen.listed, t as usize),
+        _ => {}
     }
-}
-
-pub fn units(units: &mut [u32; MOST_TYPES], line: Line)
-    requires { out_of_range line ≡ false }
-    ensures { units.new ≡ stored line kind_u units.old (number line 0) (number line 1) }
-{
-    if let Line::Units(k, n) = line {
-        let i = k as usize;
-        units[i] = n;
-    }
-}
-
-fn larger(a: usize, b: usize) -> usize
-    ensures { result ≡ max a b }
-{
-    if a < b {
-        return b;
-    }
-    a
-}
-
-pub fn tasks(tasks: usize, line: Line) -> usize
-    ensures { result ≡ cond (is_kind line kind_t) (max tasks (number line 0 + 1)) tasks }
-{
-    if let Line::Times(t, _, _, _) = line {
-        return larger(tasks, (t as usize) + 1);
-    }
-    tasks
-}
-
-// The best times are number 2 of a T line, the worst number 3. They lie task by task, as plan::time_of has it.
-pub fn times(times: &mut [u32; MOST_PAIRS], i: usize, line: Line)
-    requires { (i < 4) × (out_of_range line ≡ false) }
-    ensures { times.new
-        ≡ stored line kind_t times.old (pair_index (number line 0) (number line 1)) (number line i) }
-{
-    if let Line::Times(t, k, b, w) = line {
-        let v = [t, k, b, w];
-        let pair = plan::pair_index(t as usize, k as usize);
-        times[pair] = v[i];
-    }
-}
-
-pub fn predecessors(predecessors: &mut [u64; MOST_TASKS], line: Line)
-    requires { out_of_range line ≡ false }
-    ensures { predecessors.new
-        ≡ stored line kind_a predecessors.old (number line 1)
-        (insert (predecessors_of predecessors.old (number line 1)) (number line 0)) }
-{
-    if let Line::Arrow(from, to) = line {
-        let i = to as usize;
-        let s = predecessors[i];
-        predecessors[i] = task_set::inserted(s, from as usize);
-    }
-}
-
-// The instant that a line of this kind names for its task: a deadline, or a not-before instant.
-pub fn instants(instants: &mut [u32; MOST_TASKS], kind: u32, line: Line)
-    requires { out_of_range line ≡ false }
-    ensures { instants.new ≡ stored line kind instants.old (number line 0) (number line 1) }
-{
-    if kind_of(line) == kind {
-        let t = first(line) as usize;
-        instants[t] = second(line);
-    }
-}
-
-// The tasks of the constraint are number 0 of a C line, the types number 1. There is room for another entry.
-pub fn entries(len: usize, entries: &mut [usize; MOST_TASKS], i: usize, line: Line)
-    requires { (i < 2) × ((t k : ℕ) → line ≡ Line.Choice t k → len < most_tasks) }
-    ensures { entries.new ≡ stored line kind_c entries.old len (number line i) }
-{
-    if let Line::Choice(t, k) = line {
-        let v = [t as usize, k as usize];
-        entries[len] = v[i];
-    }
+    seen
 }

@@ -2,6 +2,7 @@
 use mathlib.Core.Path.{◌≡◌, refl, sym, ap, ◌∙◌}
 use mathlib.Core.Bool.{Bool, true, false, cond, ◌&&◌, ◌||◌, not, and-true, and-false, and_assoc}
 use mathlib.Core.List.{List, [], ◌∷◌, ◌++◌}
+use mathlib.Core.Logic.{⊎_elim}
 use Prim.Native.Nat.{ℕ, zero, suc, ◌+◌, ◌*◌, ◌^◌, ◌≤◌, ◌<◌, zero-le}
 use native.Mathlib.Nat.{le_of_suc-le-suc, not-suc-le-zero, pow-le-pow_right, pow-succ'}
 use native.Mathlib.Numerals.{add-one}
@@ -9,9 +10,9 @@ use native.Mathlib.Omega.{arith}
 use lib.Dec.{eqb, leb, ltb, lit<}
 use lib.ListN.{length, get_or, take}
 use lib.Seq.{take-suc, length-take-le, get_or-take}
-use borrow.Author.Tests.{eq-eqb, ne_eqb, le-leb, lt-leb, leb-true, ltb-true, ltb-false}
-use Rattle.task_set.proofs.Truth.{clash, by_test, off, and_left, and_right, and_both}
-use Rattle.text_form.specs.declared.Field.TheVariants.{Number, NoField}
+use borrow.Author.Tests.{eq-eqb, ne_eqb, le-leb, lt-leb, leb-true, ltb-true, ltb-false, eqb-true, eqb-false, not-true, not-false}
+use Rattle.std.proofs.Common.{Some, None}
+use Rattle.task_set.proofs.Truth.{clash, by_test, off, and_left, and_right, and_both, or_cases, or_left_off, or_right_off}
 use Rattle.text_form.specs.Form.{tab, is_digit, digit_value, most_digits, every, is_field, value_from}
 use Rattle.text_form.specs.Steps.{part_length, first_part, Digits, field_of}
 use Rattle.text_form.proofs.Parts.{part_length_lem}
@@ -40,9 +41,11 @@ module _ {s : List ℕ} {n v : ℕ} (d : Digits s n v) where
   pub value_fits : v < 10 ^ most_digits
   value_fits = omega (arith, d.small, pow-le-pow_right {n = 10} (lit< tt) d.few)
 
-  pub digits_more : n < length s → (n ≡ most_digits → ⊥) → is_digit (get_or s n 0) ≡ true
+  pub digits_more : n < length s → eqb n most_digits || not (is_digit (get_or s n 0)) ≡ false
       → Digits s (n + 1) (v * 10 + digit_value (get_or s n 0))
-  digits_more l f e =
+  digits_more l g =
+      let f : n ≡ most_digits → ⊥ = eqb-false n most_digits (or_left_off (eqb n most_digits) (not (is_digit (get_or s n 0))) g) in
+      let e : is_digit (get_or s n 0) ≡ true = not-false (is_digit (get_or s n 0)) (or_right_off (eqb n most_digits) (not (is_digit (get_or s n 0))) g) in
       let t : take (n + 1) s ≡ take n s ++ (get_or s n 0 ∷ []) = rw (add-one n) (take-suc s n 0 l) in
       record {
         within = omega arith;
@@ -58,7 +61,7 @@ module _ {s : List ℕ} {n v : ℕ} (d : Digits s n v) where
   long : length (take n s) ≡ n
   long = length-take-le n s d.within
 
-  pub field_empty : n ≡ 0 → field_of (take n s) ≡ NoField
+  pub field_empty : n ≡ 0 → field_of (take n s) ≡ None
   unfolding field_of is_field
   field_empty e = rw long (rw e refl)
 
@@ -68,7 +71,7 @@ module _ {s : List ℕ} {n v : ℕ} (d : Digits s n v) where
       by_test (ltb 1 n) (λ e. rw (e, ne_eqb n 1 (λ f. omega (arith, ltb-true 1 n e))))
       (λ e. rw (e, eq-eqb n 1 (omega (arith, ltb-false 1 n e))))
 
-  pub field_ended : (n ≡ 0 → ⊥) → field_of (take n s) ≡ cond (not (ltb 1 n && eqb (get_or s 0 0) 48)) (Number v n) NoField
+  pub field_ended : (n ≡ 0 → ⊥) → field_of (take n s) ≡ cond (not (ltb 1 n && eqb (get_or s 0 0) 48)) (Some (record { value = v; digits = n })) None
   unfolding field_of is_field
   field_ended f =
       let l : 1 ≤ n = omega (arith, f) in
@@ -84,16 +87,21 @@ digit_at (b ∷ s) zero l e = and_left (is_digit b) (every is_digit s) e
 digit_at (b ∷ s) (suc i) l e = digit_at s i (le_of_suc-le-suc l) (and_right (is_digit b) (every is_digit s) e)
 
 module _ (s : List ℕ) (n : ℕ) (l : n < part_length tab s) where
-  pub field_odd : is_digit (get_or s n 0) ≡ false → field_of (first_part tab s) ≡ NoField
+  odd : is_digit (get_or s n 0) ≡ false → field_of (first_part tab s) ≡ None
   unfolding field_of is_field
-  field_odd e =
+  odd e =
       let same : get_or (first_part tab s) n 0 ≡ get_or s n 0 = get_or-take (part_length tab s) s n 0 l in
       let f : every is_digit (first_part tab s) ≡ false =
       off _ (λ a. clash (sym (ap is_digit same) ∙ digit_at (first_part tab s) n (rw (part_length_lem tab s) l) a) e) in
       simp (f, and-false)
 
-  pub field_long : n ≡ most_digits → field_of (first_part tab s) ≡ NoField
+  long_part : n ≡ most_digits → field_of (first_part tab s) ≡ None
   unfolding field_of is_field
-  field_long e =
+  long_part e =
       rw (lt-leb (length (first_part tab s)) most_digits (omega (arith, part_length_lem tab s)))
       (rw (and-false (leb 1 (length (first_part tab s)))))
+
+  pub field_stopped : eqb n most_digits || not (is_digit (get_or s n 0)) ≡ true → field_of (first_part tab s) ≡ None
+  field_stopped e =
+      ⊎_elim (λ g. long_part (eqb-true n most_digits g)) (λ g. odd (not-true _ g))
+      (or_cases (eqb n most_digits) (not (is_digit (get_or s n 0))) e)

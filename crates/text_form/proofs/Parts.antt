@@ -1,7 +1,8 @@
 -- The first part of a list, and the parts after it. Assumes nothing.
-use mathlib.Core.Path.{◌≡◌, refl, sym, ap, ◌∙◌}
+use mathlib.Core.Path.{◌≡◌, refl, sym, ap, subst, ◌∙◌}
 use mathlib.Core.Bool.{Bool, true, false, cond}
 use mathlib.Core.List.{List, [], ◌∷◌}
+use mathlib.Core.Logic.{⊎_elim}
 use Prim.Native.Nat.{ℕ, suc, ◌+◌, ◌-◌, ◌≤◌, ◌<◌, zero-le, suc-le-suc}
 use native.Mathlib.Nat.{le_of_suc-le-suc, not-suc-le-zero}
 use native.Mathlib.Numerals.{add-one}
@@ -10,6 +11,10 @@ use lib.Dec.{eqb, ltb}
 use lib.ListN.{length, get_or, take, drop, length-drop, drop_of_length-le}
 use lib.Seq.{drop-cons, drop-drop, take_all, length-take-le}
 use borrow.Author.Tests.{eq-eqb, ne_eqb, ltb-true, ltb-false}
+use Rattle.std.specs.List.{position_or_len}
+use Rattle.std.specs.Slice.{IsGetRangeResult}
+use Rattle.std.proofs.Common.{Bor, Option, Some, None, position}
+use Rattle.std.proofs.lemmas.List.Recursion.{is_position_or_len}
 use Rattle.task_set.proofs.Truth.{by_test}
 use Rattle.text_form.specs.Form.{prepend, split}
 use Rattle.text_form.specs.Steps.{part_length, first_part}
@@ -17,6 +22,13 @@ use Rattle.text_form.specs.Steps.{part_length, first_part}
 -- the part of a list from a on, as a slice has it
 pub from_on : (s : List ℕ) (a : ℕ) → take (length s - a) (drop a s) ≡ drop a s
 from_on s a = take_all (length s - a) (drop a s) (omega (arith, length-drop a s))
+
+pub got_from : (s : List ℕ) (a : ℕ) {r : Option (Bor (List ℕ))} {x : Bor (List ℕ)} → IsGetRangeResult s a (length s) r → r ≡ Some x
+    → x.now ≡ drop a s
+got_from s a {r} {x} h e = (subst (IsGetRangeResult s a (length s)) e h).0.2 ∙ from_on s a
+
+pub got_none : (s : List ℕ) (a : ℕ) {r : Option (Bor (List ℕ))} → IsGetRangeResult s a (length s) r → r ≡ None → length s ≤ a
+got_none s a h e = ⊎_elim (λ l. omega arith) (λ l. omega arith) (subst (IsGetRangeResult s a (length s)) e h).0
 
 -- what follows n bytes and one more
 pub drop_past : (s : List ℕ) (a n : ℕ) → drop (n + 1) (drop a s) ≡ drop (a + n + 1) s
@@ -34,6 +46,16 @@ module _ (separator : ℕ) where
 
   pub part_length_lem : (s : List ℕ) → length (first_part separator s) ≡ part_length separator s
   part_length_lem s = length-take-le (part_length separator s) s (part_within s)
+
+  -- it ends where the separator stands first
+  part_is : (s : List ℕ) → part_length separator s ≡ position_or_len (λ b. eqb b separator) s
+  unfolding part_length
+  part_is = is_position_or_len (part_length separator) (λ b. eqb b separator) refl
+      (λ b s. ap (cond (eqb b separator) 0) (omega arith))
+
+  pub part_position : (s : List ℕ) → position (λ b. eqb b separator) s
+      ≡ cond (ltb (part_length separator s) (length s)) (Some (part_length separator s)) None
+  part_position s = rw (← part_is s)
 
   -- ---- the search for a separator
 

@@ -1,9 +1,8 @@
 -- The form of a line (document 01, "The plan text"). A line is given without the newline that ends it. Assumes nothing.
-use Rattle.std.specs.Prelude.{Bool, true, cond, ◌&&◌, ◌||◌, not, List, [], ◌∷◌, ℕ, ◌+◌, ◌-◌, ◌*◌, eqb, length, get_or}
+use Rattle.std.specs.Prelude.{Bool, true, cond, ◌&&◌, ◌||◌, not, List, [], ◌∷◌, Option, None, Some, ℕ, ◌+◌, ◌-◌, ◌*◌, eqb, length, get_or}
 use Rattle.plan.specs.Rules.{between}
+use Rattle.text_form.specs.declared.Line.{Line}
 use Rattle.text_form.specs.declared.Line.TheVariants.{Units, Times, Arrow, Deadline, Release, Choice}
-use Rattle.text_form.specs.declared.LineForm.{LineForm}
-use Rattle.text_form.specs.declared.LineForm.TheVariants.{Of, NoForm}
 
 -- ---- the bytes
 
@@ -57,21 +56,21 @@ value_from v (b ∷ s) = value_from (v * 10 + digit_value b) s
 
 -- U, type, count of units; T, task, type, best, worst; A, from, to; D, task, instant (document 02, 2); N, task, instant
 -- (document 02, 6); C, task, type: by the letter, how many fields there are, and their values
-unfoldable pub form_of : ℕ → ℕ → (ℕ → ℕ) → LineForm
+unfoldable pub form_of : ℕ → ℕ → (ℕ → ℕ) → Option Line
 form_of letter n v =
-    cond (eqb letter 85 && eqb n 2) (Of (Units (v 0) (v 1)))
-    (cond (eqb letter 84 && eqb n 4) (Of (Times (v 0) (v 1) (v 2) (v 3)))
-    (cond (eqb letter 65 && eqb n 2) (Of (Arrow (v 0) (v 1)))
-    (cond (eqb letter 68 && eqb n 2) (Of (Deadline (v 0) (v 1)))
-    (cond (eqb letter 78 && eqb n 2) (Of (Release (v 0) (v 1)))
-    (cond (eqb letter 67 && eqb n 2) (Of (Choice (v 0) (v 1)))
-    NoForm)))))
+    cond (eqb letter 85 && eqb n 2) (Some (Units (v 0) (v 1)))
+    (cond (eqb letter 84 && eqb n 4) (Some (Times (v 0) (v 1) (v 2) (v 3)))
+    (cond (eqb letter 65 && eqb n 2) (Some (Arrow (v 0) (v 1)))
+    (cond (eqb letter 68 && eqb n 2) (Some (Deadline (v 0) (v 1)))
+    (cond (eqb letter 78 && eqb n 2) (Some (Release (v 0) (v 1)))
+    (cond (eqb letter 67 && eqb n 2) (Some (Choice (v 0) (v 1)))
+    None)))))
 
-abbrev pub line_of_parts : List (List ℕ) → LineForm
-line_of_parts [] = NoForm
+abbrev pub line_of_parts : List (List ℕ) → Option Line
+line_of_parts [] = None
 line_of_parts (letter ∷ fields) =
     let form = form_of (get_or letter 0 0) (length fields) (λ i. value_from 0 (get_or fields i [])) in
-    cond (eqb (length letter) 1 && every is_field fields) form NoForm
+    cond (eqb (length letter) 1 && every is_field fields) form None
 
-unfoldable pub line_of : List ℕ → LineForm
+unfoldable pub line_of : List ℕ → Option Line
 line_of s = line_of_parts (split tab s)

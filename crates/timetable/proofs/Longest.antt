@@ -25,8 +25,8 @@ use Rattle.runs.proofs.Orders.{durations, starts_of, lawful, greedy}
 use Rattle.runs.proofs.Response.{ended_start, ended_finish, response_sum}
 use Rattle.simulation.specs.Simulated.{time_in, outside, times_verdict, ran, simulated, worst_case}
 use Rattle.table_lines.specs.Decimal.{decimal_upto, decimal}
-use Rattle.table_run_lines.specs.RunText.{line_at, text_by}
-use Rattle.timetable.specs.Table.{text_of, longest_timetable}
+use Rattle.table_run_lines.specs.RunText.{line_at, text_by, text_of}
+use Rattle.timetable.specs.Table.{longest_timetable}
 use Rattle.table_lines.proofs.Digits.{length_one, decimal_mono}
 use Rattle.table_lines.proofs.Text.{length_joined}
 use Rattle.table_run_lines.proofs.Length.{line_length}

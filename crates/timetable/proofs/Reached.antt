@@ -37,8 +37,8 @@ use Rattle.simulation.proofs.Ran.{worst_runs}
 use Rattle.table_lines.specs.Decimal.{decimal_upto, decimal}
 use Rattle.table_lines.specs.Texts.{field, joined}
 use Rattle.table_lines.proofs.Text.{length_joined}
-use Rattle.table_run_lines.specs.RunText.{line, line_at, text_by}
-use Rattle.timetable.specs.Table.{text_of, longest_timetable}
+use Rattle.table_run_lines.specs.RunText.{line, line_at, text_by, text_of}
+use Rattle.timetable.specs.Table.{longest_timetable}
 use Rattle.timetable.proofs.Longest.{latest, start_by}
 
 -- ---- the plan: one unit of each type, every task may use every type, and comes with the latest not-before instant

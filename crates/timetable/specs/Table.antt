@@ -3,15 +3,10 @@ use Rattle.std.specs.Prelude.{List, ℕ}
 use Rattle.plan.specs.declared.Plan.{Plan}
 use Rattle.plan.specs.declared.Constraint.{Constraint}
 use Rattle.plan.specs.Refusals.{refused}
-use Rattle.simulation_run.specs.declared.Simulation.{Simulation}
 use Rattle.simulation.specs.Simulated.{simulated, worst_case}
 use Rattle.table_lines.specs.declared.Written.{Written}
 use Rattle.table_lines.specs.Texts.{answered, bytes_after}
-use Rattle.table_run_lines.specs.RunText.{text_by}
-
--- the timetable of a simulation that is accepted
-abbrev pub text_of : Constraint → Simulation → List ℕ
-text_of c s = text_by c.order c.chosen s.starts s.finishes c.len s.response
+use Rattle.table_run_lines.specs.RunText.{text_of}
 
 -- "the longest timetable is 1,456 bytes" (document 02, 6)
 abbrev pub longest_timetable : ℕ

@@ -5,54 +5,26 @@ ghost use Rattle.std.specs.Prelude.{◌≡◌, ◌≤◌, length};
 ghost use Rattle.plan.specs.Rules.{most_tasks};
 ghost use Rattle.plan.specs.Refusals.{refused};
 ghost use Rattle.table_lines.specs.Steps.{Outcome};
-ghost use Rattle.timetable.specs.Table.{buffer_after, text_of, timetabled, worst_buffer_after, worst_timetabled};
+ghost use Rattle.table_run_lines.specs.RunText.{text_of};
+ghost use Rattle.timetable.specs.Table.{buffer_after, timetabled, worst_buffer_after, worst_timetabled};
 
-use plan::{Constraint, Plan};
+use plan::{Constraint, Plan, Verdict};
 use simulation::Simulation;
 pub use table_lines::Written;
+use table_lines::{accepted, fits};
 use table_run_lines::{put_text, text_length};
 
 // The bytes of the longest timetable.
 pub const LONGEST_TIMETABLE: usize = 1456;
 
-// The timetable of a simulation: its refusal, or 19 where the buffer is too short, or the text is written.
-fn write_run(c: Constraint, s: Simulation, buffer: &mut [u8]) -> Written
-    requires { s.number ≡ 0 → c.len ≤ most_tasks }
-    ensures { Outcome (refused s.number s.place) (text_of c s) buffer.old result buffer.new }
+// The timetable of a simulation: its refusal, or 19 where the buffer is too short, or the bytes of the text that is written.
+fn write_run(c: &Constraint, s: &Simulation, buffer: &mut [u8]) -> Result<usize, Verdict>
+    requires { s.now.number ≡ 0 → c.now.len ≤ most_tasks }
+    ensures { Outcome (refused s.now.number s.now.place) (text_of c.now s.now) buffer.old result buffer.new }
 {
-    let number = s.number;
-    let place = s.place;
-    if number != 0 {
-        return Written {
-            number,
-            place,
-            written: 0,
-        };
-    }
-    let len = c.len;
-    let response = s.response as usize;
-    let needed = text_length(&c.order, &c.chosen, &s.starts, &s.finishes, len, response);
-    if buffer.len() < needed {
-        return Written {
-            number: 19,
-            place: needed,
-            written: 0,
-        };
-    }
-    let written = put_text(
-        &c.order,
-        &c.chosen,
-        &s.starts,
-        &s.finishes,
-        len,
-        response,
-        buffer,
-    );
-    Written {
-        number: 0,
-        place: 0,
-        written,
-    }
+    accepted(s.number, s.place)?;
+    fits(text_length(c, s), buffer.len())?;
+    Ok(put_text(c, s, buffer))
 }
 
 // The timetable of the run in which each task takes its time of `times`.
@@ -61,7 +33,7 @@ pub fn timetable(p: Plan, c: Constraint, times: &[u32], buffer: &mut [u8]) -> Wr
         × (buffer.new ≡ buffer_after p c times.now buffer.old) }
 {
     let s = simulation::simulate(p, c, times);
-    write_run(c, s, buffer)
+    Written::from(write_run(&c, &s, buffer))
 }
 
 // The timetable of the run in which each task takes its worst time.
@@ -70,5 +42,5 @@ pub fn worst_timetable(p: Plan, c: Constraint, buffer: &mut [u8]) -> Written
         × (buffer.new ≡ worst_buffer_after p c buffer.old) }
 {
     let s = simulation::bound(p, c);
-    write_run(c, s, buffer)
+    Written::from(write_run(&c, &s, buffer))
 }

@@ -1,17 +1,18 @@
 -- `adoption::adopt_schedule` meets its contract. Assumes nothing.
-use native.Mathlib.Omega.{arith}
-use Rattle.adoption.proofs.Answers.{answer-refused, answer-taken, once-each, promise-passes, promise-in-time}
+use mathlib.Core.Path.{ap, ap₂, ◌∙◌}
+use Rattle.adoption.specs.Steps.{answer}
+use Rattle.adoption.proofs.Answers.{answer_refused, answer_taken, once_each, promise_passes, promise_in_time}
 use Rattle.adoption.proofs.adopt_schedule.Goals as goal
 
-pub returns-then-v-ne0 : goal.returns-then-v-ne0
-returns-then-v-ne0 c =
-    let e = answer-refused _ _ c.judge-v.ensures c.if-v-ne0.true c.no_constraint-constraint.ensures in
-    record { value = e; passes = promise-passes _ _ e; in_time = promise-in-time _ _ e }
+pub in_order-requires : goal.in_order-requires
+in_order-requires c = once_each _ _ c.in-Ok.ensures
 
-pub in_order-constraint-requires : goal.in_order-constraint-requires
-in_order-constraint-requires c = once-each _ _ c.judge-v.ensures (omega (arith, c.if-v-ne0.false))
+pub returns-in-Ok : goal.returns-in-Ok
+returns-in-Ok c =
+    let e = c.answer.ensures ∙ ap₂ answer c.none.ensures c.in_order.ensures ∙ answer_taken _ _ c.in-Ok.ensures in
+    record { value = e; passes = promise_passes _ _ e; in_time = promise_in_time _ _ e }
 
-pub returns : goal.returns
-returns c =
-    let e = answer-taken _ _ c.judge-v.ensures (omega (arith, c.if-v-ne0.false)) (c.in_order-constraint.ensures _) in
-    record { value = e; passes = promise-passes _ _ e; in_time = promise-in-time _ _ e }
+pub returns-in-Err : goal.returns-in-Err
+returns-in-Err c =
+    let e = c.answer-in-Err.ensures ∙ ap (answer _) c.no_constraint.ensures ∙ answer_refused _ _ c.in-Err.ensures in
+    record { value = e; passes = promise_passes _ _ e; in_time = promise_in_time _ _ e }

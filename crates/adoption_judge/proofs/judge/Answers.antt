@@ -1,56 +1,45 @@
 -- `adoption_judge::judge` meets its contract. Assumes nothing.
-use mathlib.Core.Path.{ap, ◌∙◌}
+use mathlib.Core.Path.{◌≡◌, refl, sym, ◌∙◌}
 use native.Mathlib.Nat.{le_trans, le_of_eq}
-use native.Mathlib.Omega.{arith}
-use Rattle.plan.specs.Refusals.{verdict}
+use Rattle.std.proofs.Common.{rules}
+use Rattle.std.specs.Prelude.{Err}
 use Rattle.plan.proofs.Kept.{few_tasks}
-use Rattle.adoption_judge.proofs.Checking.{ordered, says_8, says_20, says_21, says_22, takes, types_known}
+use Rattle.plan.proofs.Refusing.{err_is_result, ok_is_result}
+use Rattle.adoption_judge.proofs.Checking.{ordered, ended, says_21, says_22, takes, types_known}
 use Rattle.adoption_judge.proofs.judge.Goals as goal
 
-pub returns-then-v-eq8 : goal.returns-then-v-eq8
-returns-then-v-eq8 c =
-    c.refused.ensures
-    ∙ says_8 _ _ (c.check-v.ensures ∙ ap (verdict c.args.p) c.as_order.ensures) (omega (arith, c.if-v-eq8.true))
+pub returns-in_err-each_once : goal.returns-in_err-each_once
+returns-in_err-each_once c =
+    let e : c.from_residual.result ≡ Err c.in_err-each_once.field-0.0 = search rules in e ∙ ended _ _ c.in_err-each_once.ensures
 
-pub returns-then-not_each_once : goal.returns-then-not_each_once
-returns-then-not_each_once c =
-    c.refused-then-not_each_once.ensures
-    ∙ says_20 _ _ (c.check-v.ensures ∙ ap (verdict c.args.p) c.as_order.ensures) (omega (arith, c.if-not_each_once.true))
+-- from here on neither 8 nor 20
 
--- from here on the check has said neither 8 nor 9
+pub first_mistimed-requires : goal.first_mistimed-requires
+first_mistimed-requires c =
+    let o = ordered c.args.p.now c.args.s.now c.in_ok-each_once.ensures in le_trans (le_of_eq o.whole) (few_tasks _ o.kept)
 
-pub first_mistimed-mistimed-requires : goal.first_mistimed-mistimed-requires
-first_mistimed-mistimed-requires c =
-    let said = c.check-v.ensures ∙ ap (verdict c.args.p) c.as_order.ensures in
-    let o = ordered c.args.p c.args.s said c.if-v-eq8.false c.if-not_each_once.false in
-    le_trans (le_of_eq o.whole) (few_tasks _ o.kept)
+pub returns-in-Some : goal.returns-in-Some
+returns-in-Some c =
+    let o = ordered c.args.p.now c.args.s.now c.in_ok-each_once.ensures in
+    err_is_result refl c.refused.ensures (says_21 _ _ o (sym c.in-Some.is ∙ c.first_mistimed.ensures))
 
-pub returns-then-mistimed-len : goal.returns-then-mistimed-len
-returns-then-mistimed-len c =
-    let said = c.check-v.ensures ∙ ap (verdict c.args.p) c.as_order.ensures in
-    let o = ordered c.args.p c.args.s said c.if-v-eq8.false c.if-not_each_once.false in
-    c.refused-then-mistimed-len.ensures ∙ says_21 _ _ o c.first_mistimed-mistimed.ensures (omega (arith, c.if-mistimed-len.true))
-
-pub first_unmeetable-unmeetable-requires : goal.first_unmeetable-unmeetable-requires
-first_unmeetable-unmeetable-requires c =
-    let said = c.check-v.ensures ∙ ap (verdict c.args.p) c.as_order.ensures in
-    let o = ordered c.args.p c.args.s said c.if-v-eq8.false c.if-not_each_once.false in (
+pub first_unmeetable-requires : goal.first_unmeetable-requires
+first_unmeetable-requires c =
+    let o = ordered c.args.p.now c.args.s.now c.in_ok-each_once.ensures in (
       le_trans (le_of_eq o.whole) (few_tasks _ o.kept),
-      types_known _ _ o c.first_mistimed-mistimed.ensures c.if-mistimed-len.false,
+      types_known _ _ o (sym c.in_default.is ∙ c.first_mistimed.ensures),
     )
 
-pub returns-then-unmeetable-len : goal.returns-then-unmeetable-len
-returns-then-unmeetable-len c =
-    let said = c.check-v.ensures ∙ ap (verdict c.args.p) c.as_order.ensures in
-    let o = ordered c.args.p c.args.s said c.if-v-eq8.false c.if-not_each_once.false in
-    c.refused-then-unmeetable-len.ensures
-    ∙ says_22 _ _ o c.first_mistimed-mistimed.ensures c.if-mistimed-len.false c.first_unmeetable-unmeetable.ensures
-    c.if-unmeetable-len.true
+pub returns-in-Some-first_unmeetable : goal.returns-in-Some-first_unmeetable
+returns-in-Some-first_unmeetable c =
+    let o = ordered c.args.p.now c.args.s.now c.in_ok-each_once.ensures in
+    err_is_result refl c.refused-in-Some-first_unmeetable.ensures
+    (says_22 _ _ o (sym c.in_default.is ∙ c.first_mistimed.ensures)
+    (sym c.in-Some-first_unmeetable.is ∙ c.first_unmeetable.ensures))
 
 pub returns : goal.returns
 returns c =
-    let said = c.check-v.ensures ∙ ap (verdict c.args.p) c.as_order.ensures in
-    let o = ordered c.args.p c.args.s said c.if-v-eq8.false c.if-not_each_once.false in
-    c.refused-2.ensures
-    ∙ takes _ _ o c.first_mistimed-mistimed.ensures c.if-mistimed-len.false c.first_unmeetable-unmeetable.ensures
-    c.if-unmeetable-len.false
+    let o = ordered c.args.p.now c.args.s.now c.in_ok-each_once.ensures in
+    ok_is_result
+    (takes _ _ o (sym c.in_default.is ∙ c.first_mistimed.ensures)
+    (sym c.in_default-first_unmeetable.is ∙ c.first_unmeetable.ensures))

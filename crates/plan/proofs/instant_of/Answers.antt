@@ -1,12 +1,13 @@
 -- `plan::instant_of` meets its contract. Assumes nothing.
-use borrow.Author.Tests.{le-ltb, lt-ltb}
-use Rattle.plan.specs.Rules.{instant_of}
+use mathlib.Core.Path.{◌≡◌, ◌∙◌}
+use lib.ListN.{get_or}
+use borrow.Author.Rules.{rules}
+use Rattle.plan.specs.Rules.{instant_of, most_tasks}
+use Rattle.plan.proofs.Pairs.{entry_or_none}
 use Rattle.plan.proofs.instant_of.Goals as goal
-
-pub returns-then-t-ge-MOST_TASKS : goal.returns-then-t-ge-MOST_TASKS
-unfolding instant_of
-returns-then-t-ge-MOST_TASKS c = simp (le-ltb _ _ c.if-t-ge-MOST_TASKS.true)
 
 pub returns : goal.returns
 unfolding instant_of
-returns c = simp (lt-ltb _ _ c.before.if-t-ge-MOST_TASKS.false)
+returns c =
+    let e : c.unwrap_or.result ≡ get_or c.args.instants.now c.args.t 0 = search rules in
+    e ∙ entry_or_none c.args.instants.now most_tasks c.args.t c.told-instants

@@ -1,9 +1,12 @@
 -- `plan::time_of` meets its contract. Assumes nothing.
-use Rattle.plan.proofs.Pairs.{time_past, time_there}
+use mathlib.Core.Path.{◌≡◌, ◌∙◌}
+use lib.ListN.{get_or}
+use borrow.Author.Rules.{rules}
+use Rattle.plan.specs.Rules.{pair_place}
+use Rattle.plan.proofs.Pairs.{time_by_place}
 use Rattle.plan.proofs.time_of.Goals as goal
 
-pub returns-then-i-ge-MOST_PAIRS : goal.returns-then-i-ge-MOST_PAIRS
-returns-then-i-ge-MOST_PAIRS c = time_past _ _ _ c.pair_index-i.ensures c.if-i-ge-MOST_PAIRS.true
-
 pub returns : goal.returns
-returns c = time_there _ _ _ c.pair_index-i.ensures c.if-i-ge-MOST_PAIRS.false
+returns c =
+    let e : c.unwrap_or.result ≡ get_or c.args.times.now (pair_place c.args.t c.args.k) 0 = search rules in
+    e ∙ time_by_place c.args.times.now c.args.t c.args.k c.told-times

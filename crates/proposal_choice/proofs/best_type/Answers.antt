@@ -1,8 +1,4 @@
 -- `proposal_choice::best_type` meets its contract: `best` is the best of the types so far. Assumes nothing.
-use Prim.Native.Nat.{◌-◌}
-use borrow.Author.Rules.{rules}
-use Rattle.plan.specs.Rules.{most_types}
-use Rattle.proposal_choice.specs.Steps.{BestBelow}
 use Rattle.proposal_choice.proofs.Choices.{best_none, best_end, best_found}
 use Rattle.proposal_choice.proofs.best_type.Goals as goal
 

@@ -1,6 +1,5 @@
 -- `proposal_choice::better_of` meets its contract. Assumes nothing.
 use native.Mathlib.Omega.{arith}
-use borrow.Author.Rules.{rules}
 use Rattle.proposal_choice.proofs.Choices.{start_bound, in_use, best_skipped, best_stays, best_moves}
 use Rattle.proposal_choice.proofs.better_of.Goals as goal
 

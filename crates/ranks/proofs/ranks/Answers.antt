@@ -6,7 +6,7 @@ use Rattle.ranks.proofs.ranks.Goals as goal
 
 pub returns-then-not-plan_ok : goal.returns-then-not-plan_ok
 returns-then-not-plan_ok c =
-    c.refused.ensures ∙ says_8 _ (sym c.plan_ok.ensures ∙ c.if-not-plan_ok.true)
+    says_8 _ (sym c.plan_ok.ensures ∙ c.if-not-plan_ok.true)
 
 pub leads_back-requires : goal.leads_back-requires
 leads_back-requires c =
@@ -14,11 +14,10 @@ leads_back-requires c =
 
 pub returns-then-leads_back : goal.returns-then-leads_back
 returns-then-leads_back c =
-    c.refused-then-leads_back.ensures
-    ∙ says_23 _ (sym c.plan_ok.ensures ∙ c.if-not-plan_ok.false) (sym c.leads_back.ensures ∙ c.if-leads_back.true)
+    says_23 _ (sym c.plan_ok.ensures ∙ c.if-not-plan_ok.false) (sym c.leads_back.ensures ∙ c.if-leads_back.true)
 
-pub table_of-ranks-requires : goal.table_of-ranks-requires
-table_of-ranks-requires c =
+pub table_of-requires : goal.table_of-requires
+table_of-requires c =
     plan_ready _ (sym c.plan_ok.ensures ∙ c.if-not-plan_ok.false)
     (sym c.leads_back.ensures ∙ c.if-leads_back.false)
 
@@ -26,4 +25,4 @@ pub returns : goal.returns
 unfolding ranks_of
 returns c =
     says_0 _ (sym c.plan_ok.ensures ∙ c.if-not-plan_ok.false)
-    (sym c.leads_back.ensures ∙ c.if-leads_back.false) c.table_of-ranks.ensures
+    (sym c.leads_back.ensures ∙ c.if-leads_back.false) c.table_of.ensures

@@ -7,18 +7,17 @@ use lib.Dec.{ltb}
 use Rattle.ranks_arrows.proofs.Joining.{fair_none, joined_fair, grows, size_low, short_circle}
 use Rattle.ranks_arrows.proofs.leads_back.Goals as goal
 
-pub loop-more-smaller : goal.loop-more-smaller
-loop-more-smaller c =
-    omega (arith, grows _ _ c.requires _ c.loop-more.invariant.0 c.loop-more.invariant.1 c.loop-more-test.true, size_low c.loop-more.more)
+pub loop-s-smaller : goal.loop-s-smaller
+loop-s-smaller c =
+    omega (arith, grows _ _ c.requires _ c.loop-s.invariant c.all_joined-more.ensures c.if-more-s.false, size_low c.all_joined-more.result)
 
-pub loop-more-preserved : goal.loop-more-preserved
-loop-more-preserved c =
-    (rw c.loop-more.invariant.1 (joined_fair _ _ c.requires _ _ (le_refl _) c.loop-more.invariant.0), c.all_joined-more-in-loop-more.ensures)
+pub loop-s-preserved : goal.loop-s-preserved
+loop-s-preserved c = rw c.all_joined-more.ensures (joined_fair _ _ c.requires _ _ (le_refl _) c.loop-s.invariant)
 
-pub returns : goal.returns
-returns c =
+pub returns-then-more-s : goal.returns-then-more-s
+returns-then-more-s c =
     ap (λ (n : ℕ). ltb n c.args.tasks) c.member_count.ensures
-    ∙ short_circle _ _ c.requires _ c.loop-more.invariant.0 (sym c.loop-more.invariant.1 ∙ c.loop-more-test.false)
+    ∙ short_circle _ _ c.requires _ c.loop-s.invariant (sym c.all_joined-more.ensures ∙ c.if-more-s.true)
 
-pub loop-more-init : goal.loop-more-init
-loop-more-init c = (fair_none _ _ c.requires, c.all_joined-more.ensures)
+pub loop-s-init : goal.loop-s-init
+loop-s-init c = fair_none _ _ c.requires

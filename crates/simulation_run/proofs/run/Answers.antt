@@ -1,20 +1,19 @@
 -- `simulation_run::run` meets its contract: what the arrays hold at each position. Assumes nothing.
 use mathlib.Core.Path.{refl}
 use mathlib.Core.List.{List}
-use Prim.Native.Nat.{ℕ, ◌*◌, ◌≤◌, ◌<◌}
+use Prim.Native.Nat.{ℕ, ◌*◌, ◌<◌}
 use native.Mathlib.Nat.{lt_of_lt_of_le}
 use native.Mathlib.Omega.{arith}
-use borrow.Author.Rules.{rules}
 use lib.ListN.{get_or}
 use Rattle.plan.specs.Rules.{most_types, most_units, most_tasks}
 use Rattle.plan.specs.declared.Plan.{Plan}
 use Rattle.plan.specs.declared.Constraint.{Constraint}
 use Rattle.plan.proofs.Accepted.{Accepted, accepted}
 use Rattle.runs.proofs.Positions.{task_at, type_at}
-use Rattle.runs.proofs.Orders.{Lasting, starts_of}
+use Rattle.runs.proofs.Orders.{Lasting}
 use Rattle.simulation_times.specs.Times.{time_in}
 use Rattle.simulation_run.specs.Steps.{Listed, Runnable}
-use Rattle.simulation_run.proofs.Reached.{Reached, reached_none, reached_more, reached_end, next_start, finish_short}
+use Rattle.simulation_run.proofs.Reached.{reached_none, reached_more, reached_end, next_start, finish_short}
 use Rattle.simulation_waits.specs.Waits.{FreeFirst}
 use Rattle.simulation_waits.proofs.Waits.{first_in_array}
 use Rattle.simulation_run.proofs.run.Goals as goal
@@ -58,7 +57,7 @@ overflow_add-finish c =
       arith,
       next_start a d s (c.loop-k.invariant d (λ t l. refl)) c.loop-k-test.true c.free_first-unit.ensures
           c.predecessors_of-needed.ensures c.difference.ensures c.latest_finish-waited.ensures c.release_of.ensures
-          c.later-earliest.ensures c.later.ensures c.later-last.ensures,
+          c.max-earliest.ensures c.max.ensures c.max-last.ensures,
       finish_short a d s c.requires.short _ c.loop-k-test.true,
     )
 
@@ -72,8 +71,8 @@ loop-k-preserved c = λ d h.
     let i = c.loop-k.invariant d h in
     reached_more a d s i c.loop-k-test.true c.free_first-unit.ensures c.predecessors_of-needed.ensures
     (next_start a d s i c.loop-k-test.true c.free_first-unit.ensures c.predecessors_of-needed.ensures c.difference.ensures
-    c.latest_finish-waited.ensures c.release_of.ensures c.later-earliest.ensures c.later.ensures c.later-last.ensures)
-    (h _ (task_low _ _ _ c.requires _ c.loop-k-test.true)) c.later-response.ensures
+    c.latest_finish-waited.ensures c.release_of.ensures c.max-earliest.ensures c.max.ensures c.max-last.ensures)
+    (h _ (task_low _ _ _ c.requires _ c.loop-k-test.true)) c.max-response.ensures
 
 pub returns : goal.returns
 returns c = λ d h.

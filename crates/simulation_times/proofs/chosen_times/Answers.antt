@@ -1,9 +1,6 @@
 -- `simulation_times::chosen_times` meets its contract: the positions passed have their times. Assumes nothing.
-use Prim.Native.Nat.{◌-◌, ◌≤◌}
 use native.Mathlib.Nat.{lt_of_lt_of_le}
 use native.Mathlib.Omega.{arith}
-use borrow.Author.Rules.{rules}
-use Rattle.simulation_times.specs.Times.{ChosenTimes}
 use Rattle.simulation_times.proofs.Chosen.{chosen_none, chosen_more, chosen_end}
 use Rattle.simulation_times.proofs.chosen_times.Goals as goal
 
@@ -18,14 +15,10 @@ bounds-by_task-t c =
     (o.task _ c.loop-k-test.true) o.few
 
 pub loop-k-preserved : goal.loop-k-preserved
-loop-k-preserved c =
-    let l = c in (
-      search rules,
-      chosen_more l.requires c.loop-k-test.true l.loop-k.invariant.1 c.time_of.ensures,
-    )
+loop-k-preserved c = chosen_more c.requires c.loop-k-test.true c.loop-k.invariant c.time_of.ensures
 
 pub loop-k-init : goal.loop-k-init
-loop-k-init c = (search rules, chosen_none)
+loop-k-init c = chosen_none
 
 pub returns : goal.returns
-returns c = chosen_end c.loop-k.invariant.1 c.loop-k-test.false
+returns c = chosen_end c.loop-k.invariant c.loop-k-test.false

@@ -1,9 +1,6 @@
 -- `simulation_times::first_outside` meets its contract: the lowest of the positions passed. Assumes nothing.
-use Prim.Native.Nat.{◌-◌, ◌≤◌}
 use native.Mathlib.Omega.{arith}
-use borrow.Author.Rules.{rules}
-use Rattle.simulation_times.specs.Times.{outside_at, LowestOf}
-use Rattle.simulation_times.proofs.Lowest.{outside_by, lowest_none, lowest_falls, lowest_stays, lowest_end}
+use Rattle.simulation_times.proofs.Lowest.{outside_by, lowest_none, lowest_falls, lowest_stays, lowest_end, lowest_told}
 use Rattle.simulation_times.proofs.first_outside.Goals as goal
 use Rattle.simulation_times.proofs.first_outside.Goals.{then-within-t, else-within-t}
 
@@ -19,16 +16,14 @@ bounds-times-t c =
 
 pub loop-k-preserved : goal.loop-k-preserved
 loop-k-preserved c =
-    let e = outside_by _ _ _ _ _ c.time_of.ensures in (
-      search rules,
-      elim c.if-within-t.branch [
-        | then-within-t w ↦ rw w.lowest-is (lowest_falls c.loop-k.invariant.1 e w.if-within-t.true)
-        | else-within-t w ↦ rw w.lowest-is (lowest_stays c.loop-k.invariant.1 e w.if-within-t.false)
-      ],
-    )
+    let e = outside_by _ _ _ _ _ c.time_of.ensures in
+    elim c.if-within-t.branch [
+      | then-within-t w ↦ rw w.lowest-is (lowest_falls c.loop-k.invariant e w.if-within-t.true)
+      | else-within-t w ↦ rw w.lowest-is (lowest_stays c.loop-k.invariant e w.if-within-t.false)
+    ]
 
 pub loop-k-init : goal.loop-k-init
-loop-k-init c = (search rules, lowest_none)
+loop-k-init c = lowest_none
 
 pub returns : goal.returns
-returns c = lowest_end c.loop-k.invariant.1 (omega arith)
+returns c = lowest_told (lowest_end c.loop-k.invariant (omega arith)) c.then_some.ensures

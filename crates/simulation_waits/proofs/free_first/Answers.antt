@@ -1,9 +1,7 @@
 -- `simulation_waits::free_first` meets its contract: `best` is the unit looked at that is free first. Assumes nothing.
 
-use Prim.Native.Nat.{◌-◌, ◌≤◌}
 use native.Mathlib.Omega.{arith}
 use borrow.Author.Rules.{rules}
-use Rattle.simulation_waits.specs.Waits.{FreeFirst}
 use Rattle.simulation_waits.proofs.Waits.{first_one, first_stays, first_moves, first_in_array, first_end}
 use Rattle.simulation_waits.proofs.free_first.Goals as goal
 use Rattle.simulation_waits.proofs.free_first.Goals.{then-free-base, else-free-base}

@@ -1,10 +1,7 @@
 -- `simulation_waits::latest_finish` meets its contract: what is passed and what is left make the whole. Assumes nothing.
-use mathlib.Core.Path.{◌≡◌, ◌∙◌}
-use Prim.Native.Nat.{max, ◌<◌, ◌^◌}
+use mathlib.Core.Path.{◌∙◌}
 use native.Mathlib.Nat.{zero-max}
 use borrow.Author.Rules.{rules}
-use Rattle.task_set.specs.Sets.{size, width}
-use Rattle.simulation_waits.specs.Waits.{latest_of}
 use Rattle.task_set.proofs.Members.{lowest_low, fewer_left}
 use Rattle.simulation_waits.proofs.Waits.{latest_more, latest_end}
 use Rattle.simulation_waits.proofs.latest_finish.Goals as goal
@@ -18,7 +15,7 @@ pub loop-left-preserved : goal.loop-left-preserved
 loop-left-preserved c =
     let l = c in (
       search rules,
-      rw (c.without_lowest-left.ensures, c.later-latest.ensures, c.lowest_member-t.ensures)
+      rw (c.without_lowest-left.ensures, c.max-latest.ensures, c.lowest_member-t.ensures)
           (latest_more _ l.loop-left.invariant.0 c.loop-left-test.true _ _ ∙ l.loop-left.invariant.1),
     )
 

@@ -1,12 +1,8 @@
 -- `simulation_waits::latest_finish` meets its contract: what is passed and what is left make the whole. Assumes nothing.
-use mathlib.Core.Path.{◌≡◌, ◌∙◌}
+use mathlib.Core.Path.{◌≡◌}
 use Prim.Native.Nat.{max, ◌<◌, ◌^◌}
-use native.Mathlib.Nat.{zero-max}
-use borrow.Author.Rules.{rules}
 use Rattle.task_set.specs.Sets.{size, width}
 use Rattle.simulation_waits.specs.Waits.{latest_of}
-use Rattle.task_set.proofs.Members.{lowest_low, fewer_left}
-use Rattle.simulation_waits.proofs.Waits.{latest_more, latest_end}
 use Rattle.simulation_waits.proofs.latest_finish.Given as goal
 
 abbrev pub invariant-loop-left : goal.invariant-loop-left

@@ -1,6 +1,5 @@
 -- `slack::slacks_of` meets its contract. Assumes nothing.
 use mathlib.Core.Path.{sym, ap, subst, ◌∙◌}
-use borrow.Author.Rules.{rules}
 use Rattle.slack.specs.declared.Slacks.{Slacks}
 use Rattle.slack.specs.Margins.{slacks_in, slacks_of, InRange}
 use Rattle.slack.proofs.Range.{in_range}

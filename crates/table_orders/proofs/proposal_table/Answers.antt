@@ -11,4 +11,5 @@ write_order-requires c = rw c.propose-a.ensures.value (proposal-short _)
 pub returns : goal.returns
 unfolding order_tabled order_buffer_after
 returns c =
-    by_result (λ a. refused a.number a.place) (λ a. order_text_of a.constraint) c.propose-a.ensures.value c.write_order.ensures
+    by_result (λ a. refused a.number a.place) (λ a. order_text_of a.constraint) c.propose-a.ensures.value
+    c.write_order.ensures c.from.ensures

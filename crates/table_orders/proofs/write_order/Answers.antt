@@ -1,30 +1,20 @@
 -- `table_orders::write_order` meets its contract. Assumes nothing.
-use mathlib.Core.Path.{◌≡◌}
-use mathlib.Core.List.{List}
-use Prim.Native.Nat.{ℕ, ◌≤◌}
-use native.Mathlib.Omega.{arith}
-use lib.ListN.{length}
-use Rattle.table_lines.specs.Steps.{Room}
-use Rattle.table_lines.proofs.Stores.{put_length}
-use Rattle.table_lines.proofs.Outcomes.{refuses, too_short, writes}
+use Rattle.std.proofs.lemmas.Result.{err_from_is_err_and}
+use Rattle.table_lines.proofs.Outcomes.{stops, lacks, has_room, put}
 use Rattle.table_orders.proofs.write_order.Goals as goal
 
--- where the length is not above the buffer's, the lines fit
-room : {b text : List ℕ} {n : ℕ} → n ≡ length text → n ≤ length b → Room b 0 text
-room e l = record { fits = omega arith }
+pub returns-in_err-accepted : goal.returns-in_err-accepted
+returns-in_err-accepted c =
+    let r = err_from_is_err_and c.from_residual.result c.from_residual.ensures.1 in
+    rw (r.1, r.2) (stops _ _ _ c.accepted.ensures c.in_err-accepted.was)
 
-pub returns-then-number-ne0 : goal.returns-then-number-ne0
-returns-then-number-ne0 c = refuses _ _ _ c.if-number-ne0.true
-
-pub returns-then-buffer-needed : goal.returns-then-buffer-needed
-returns-then-buffer-needed c = too_short _ _ _ c.if-number-ne0.false c.order_length-needed.ensures c.if-buffer-needed.true
-
-pub put_order-written-requires : goal.put_order-written-requires
-put_order-written-requires c = (c.requires, room c.order_length-needed.ensures c.if-buffer-needed.false)
-
-pub shape_of-buffer : goal.shape_of-buffer
-shape_of-buffer c = put_length c.put_order-written.ensures
+pub returns-in_err-fits : goal.returns-in_err-fits
+returns-in_err-fits c =
+    let r = err_from_is_err_and c.from_residual-in_err-fits.result c.from_residual-in_err-fits.ensures.1 in
+    rw (r.1, r.2) (lacks _ _ _ c.accepted.ensures c.in_ok-accepted.was c.order_length.ensures c.fits.ensures c.in_err-fits.was)
 
 pub returns : goal.returns
-returns c =
-    writes _ _ _ c.if-number-ne0.false (room c.order_length-needed.ensures c.if-buffer-needed.false) c.put_order-written.ensures
+returns c = put _ _ _ c.accepted.ensures c.in_ok-accepted.was c.order_length.ensures c.fits.ensures c.in_ok-fits.was c.put_order.ensures
+
+pub put_order-requires : goal.put_order-requires
+put_order-requires c = (c.requires, has_room _ _ _ c.accepted.ensures c.in_ok-accepted.was c.order_length.ensures c.fits.ensures c.in_ok-fits.was)

@@ -6,4 +6,5 @@ use Rattle.table_slacks.proofs.slack_table.Goals as goal
 
 pub returns : goal.returns
 unfolding slack_tabled slack_buffer_after
-returns c = by_result (λ s. refused s.number s.place) (slack_text_of _) c.bound-s.ensures.0 c.write_slacks.ensures
+returns c =
+    by_result (λ s. refused s.number s.place) (slack_text_of _) c.bound-s.ensures.0 c.write_slacks.ensures c.from.ensures

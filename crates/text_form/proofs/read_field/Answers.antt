@@ -7,8 +7,8 @@ use lib.ListN.{length, take, drop, get_or}
 use borrow.Author.Rules.{rules}
 use Rattle.text_form.specs.Form.{tab}
 use Rattle.text_form.specs.Steps.{part_length, first_part, field_of}
-use Rattle.text_form.proofs.Parts.{part_ended, part_found, part_more}
-use Rattle.text_form.proofs.Decimal.{digits_none, digits_more, value_fits, digit_small, field_odd, field_long}
+use Rattle.text_form.proofs.Parts.{part_found, part_more}
+use Rattle.text_form.proofs.Decimal.{digits_none, digits_more, field_stopped}
 use Rattle.text_form.proofs.read_field.Goals as goal
 
 module _ (s : List ℕ) (n : ℕ) (all : n + part_length tab (drop n s) ≡ part_length tab s) where
@@ -23,39 +23,19 @@ module _ (s : List ℕ) (n : ℕ) (all : n + part_length tab (drop n s) ≡ part
 pub loop-n-init : goal.loop-n-init
 loop-n-init c = (digits_none _, search rules)
 
-pub field_of-requires : goal.field_of-requires
-field_of-requires c = c.loop-n.invariant.0
-
 pub returns-then-b-eq-TAB : goal.returns-then-b-eq-TAB
 returns-then-b-eq-TAB c =
     c.field_of.ensures
     ∙ ended _ _ c.loop-n.invariant.1 (part_found tab c.args.s.now c.loop-n.n c.loop-n-test.true c.if-b-eq-TAB.true)
 
-pub returns-then-n-eq-MOST_DIGITS : goal.returns-then-n-eq-MOST_DIGITS
-returns-then-n-eq-MOST_DIGITS c =
-    sym (field_long _ _ (inside _ _ c.loop-n.invariant.1 c.loop-n-test.true c.if-b-eq-TAB.false) c.if-n-eq-MOST_DIGITS.true)
-
-pub returns-then-not-is_digit : goal.returns-then-not-is_digit
-returns-then-not-is_digit c =
-    sym (field_odd _ _ (inside _ _ c.loop-n.invariant.1 c.loop-n-test.true c.if-b-eq-TAB.false)
-    (sym c.is_digit.ensures ∙ c.if-not-is_digit.true))
-
-pub with_digit-value-requires : goal.with_digit-value-requires
-with_digit-value-requires c =
-    (value_fits c.loop-n.invariant.0, rw c.digit.ensures (digit_small _ (sym c.is_digit.ensures ∙ c.if-not-is_digit.false)))
+pub returns-then-n-is_ascii_digit : goal.returns-then-n-is_ascii_digit
+returns-then-n-is_ascii_digit c =
+    sym (field_stopped _ _ (inside _ _ c.loop-n.invariant.1 c.loop-n-test.true c.if-b-eq-TAB.false)
+    (rw (← c.is_ascii_digit.ensures.value) c.if-n-is_ascii_digit.true))
 
 pub loop-n-preserved : goal.loop-n-preserved
 loop-n-preserved c = (
-  rw (c.with_digit-value.ensures, c.digit.ensures)
-      (digits_more c.loop-n.invariant.0 c.loop-n-test.true c.if-n-eq-MOST_DIGITS.false
-      (sym c.is_digit.ensures ∙ c.if-not-is_digit.false)),
+  rw (c.with_digit-value.ensures, c.from.ensures)
+      (digits_more c.loop-n.invariant.0 c.loop-n-test.true (rw (← c.is_ascii_digit.ensures.value) c.if-n-is_ascii_digit.false)),
   omega (arith, part_more tab c.args.s.now c.loop-n.n c.loop-n-test.true c.if-b-eq-TAB.false),
 )
-
-pub field_of-requires-2 : goal.field_of-requires-2
-field_of-requires-2 c = c.loop-n.invariant.0
-
-pub returns : goal.returns
-returns c =
-    c.field_of-2.ensures
-    ∙ ended _ _ c.loop-n.invariant.1 (part_ended tab c.args.s.now c.loop-n.n c.loop-n-test.false)

@@ -1,23 +1,23 @@
 -- `text_form::read_line` meets its contract. Assumes nothing.
-use mathlib.Core.Path.{sym, ap, ◌∙◌}
-use mathlib.Core.List.{List}
-use Prim.Native.Nat.{ℕ}
-use Rattle.text_form.specs.Form.{tab, split}
-use Rattle.text_form.specs.Steps.{fields_of, form_from}
-use Rattle.text_form.proofs.Parts.{from_on}
-use Rattle.text_form.proofs.Lines.{line_short, line_untabbed, line_tabbed}
+use mathlib.Core.Path.{◌≡◌, sym, ◌∙◌}
+use native.Mathlib.Omega.{arith}
+use lib.ListN.{get_or}
+use Rattle.text_form.specs.Form.{tab}
+use Rattle.text_form.proofs.Lines.{line_short, line_untabbed, line_by}
 use Rattle.text_form.proofs.read_line.Goals as goal
+
+pub returns-in_default : goal.returns-in_default
+returns-in_default c = sym (line_short _ c.in_default.len_below)
+
+pub returns-in_default-2 : goal.returns-in_default-2
+returns-in_default-2 c = sym (line_untabbed _ c.in_default.len_at_least (λ e. omega (arith, e)))
+
+pub returns-in_err-read_fields : goal.returns-in_err-read_fields
+returns-in_err-read_fields c =
+    let e : get_or c.args.s.now 1 0 ≡ tab = omega arith in
+    c.from_residual.ensures ∙ sym (line_by _ c.in-9.len_at_least e (sym c.read_fields.ensures ∙ c.in_err-read_fields.was))
 
 pub returns : goal.returns
 returns c =
-    let k = c in
-    let s = k.args.s.now in
-    c.form_of.ensures
-    ∙ ap (form_from _) (c.read_fields-f.ensures ∙ ap (λ (x : List ℕ). fields_of (split tab x)) (from_on s 2))
-    ∙ sym (line_tabbed s k.if-s-lt2.false k.if-s-ne-TAB.false)
-
-pub returns-then-s-lt2 : goal.returns-then-s-lt2
-returns-then-s-lt2 c = sym (line_short _ c.if-s-lt2.true)
-
-pub returns-then-s-ne-TAB : goal.returns-then-s-ne-TAB
-returns-then-s-ne-TAB c = sym (line_untabbed _ c.if-s-lt2.false c.if-s-ne-TAB.true)
+    let e : get_or c.args.s.now 1 0 ≡ tab = omega arith in
+    c.form_of.ensures ∙ sym (line_by _ c.in-9.len_at_least e (sym c.read_fields.ensures ∙ c.in_ok-read_fields.was))

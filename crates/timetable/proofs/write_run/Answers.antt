@@ -1,34 +1,28 @@
 -- `timetable::write_run` meets its contract. Assumes nothing.
-use mathlib.Core.Path.{◌≡◌}
-use mathlib.Core.List.{List}
-use Prim.Native.Nat.{ℕ, ◌≤◌}
-use native.Mathlib.Omega.{arith}
-use lib.ListN.{length}
-use Rattle.table_lines.specs.Steps.{Room}
-use Rattle.table_lines.proofs.Stores.{put_length}
-use Rattle.table_lines.proofs.Outcomes.{refuses, too_short, writes}
+use mathlib.Core.Path.{sym, ◌∙◌}
+use Rattle.std.proofs.lemmas.Result.{err_from_is_err_and}
+use Rattle.plan.proofs.Refusing.{as_ok}
+use Rattle.table_lines.proofs.Outcomes.{stops, lacks, has_room, put}
 use Rattle.timetable.proofs.write_run.Goals as goal
 
--- where the length is not above the buffer's, the text fits
-room : {b text : List ℕ} {n : ℕ} → n ≡ length text → n ≤ length b → Room b 0 text
-room e l = record { fits = omega arith }
+pub returns-in_err-accepted : goal.returns-in_err-accepted
+returns-in_err-accepted c =
+    let r = err_from_is_err_and c.from_residual.result c.from_residual.ensures.1 in
+    rw (r.1, r.2) (stops _ _ _ c.accepted.ensures c.in_err-accepted.was)
 
-pub returns-then-number-ne0 : goal.returns-then-number-ne0
-returns-then-number-ne0 c = refuses _ _ _ c.if-number-ne0.true
-
-pub text_length-needed-requires : goal.text_length-needed-requires
-text_length-needed-requires c = c.requires c.if-number-ne0.false
-
-pub returns-then-buffer-needed : goal.returns-then-buffer-needed
-returns-then-buffer-needed c = too_short _ _ _ c.if-number-ne0.false c.text_length-needed.ensures c.if-buffer-needed.true
-
-pub put_text-written-requires : goal.put_text-written-requires
-put_text-written-requires c =
-    (c.requires c.if-number-ne0.false, room c.text_length-needed.ensures c.if-buffer-needed.false)
-
-pub shape_of-buffer : goal.shape_of-buffer
-shape_of-buffer c = put_length c.put_text-written.ensures
+pub returns-in_err-fits : goal.returns-in_err-fits
+returns-in_err-fits c =
+    let r = err_from_is_err_and c.from_residual-in_err-fits.result c.from_residual-in_err-fits.ensures.1 in
+    rw (r.1, r.2) (lacks _ _ _ c.accepted.ensures c.in_ok-accepted.was c.text_length.ensures c.fits.ensures c.in_err-fits.was)
 
 pub returns : goal.returns
-returns c =
-    writes _ _ _ c.if-number-ne0.false (room c.text_length-needed.ensures c.if-buffer-needed.false) c.put_text-written.ensures
+returns c = put _ _ _ c.accepted.ensures c.in_ok-accepted.was c.text_length.ensures c.fits.ensures c.in_ok-fits.was c.put_text.ensures
+
+pub text_length-requires : goal.text_length-requires
+text_length-requires c = c.requires (as_ok _ (sym c.in_ok-accepted.was ∙ c.accepted.ensures))
+
+pub put_text-requires : goal.put_text-requires
+put_text-requires c = (
+  c.requires (as_ok _ (sym c.in_ok-accepted.was ∙ c.accepted.ensures)),
+  has_room _ _ _ c.accepted.ensures c.in_ok-accepted.was c.text_length.ensures c.fits.ensures c.in_ok-fits.was,
+)

@@ -9,4 +9,4 @@ walk-w-requires c = positions _ _
 
 pub returns : goal.returns
 returns c = walked_by _ c.requires
-    c.walk-w.ensures c.difference-fresh.ensures
+    c.walk-w.ensures c.difference.ensures

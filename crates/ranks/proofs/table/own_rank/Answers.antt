@@ -1,19 +1,24 @@
 -- `ranks::table::own_rank` meets its contract: the types passed are counted and their times summed. Assumes nothing.
-use native.Mathlib.Omega.{arith}
 use borrow.Author.Rules.{rules}
-use borrow.Author.Tests.{lt-ltb, le-ltb}
+use mathlib.Core.Bool.{Bool, true, false, cond}
+use mathlib.Core.Path.{◌≡◌, refl, ap, ◌∙◌}
+use mir.Val.{bool_byte}
+use lib.Dec.{ltb}
+use Prim.Native.Nat.{ℕ, ◌+◌}
 use Rattle.ranks.proofs.Summing.{summed_none, summed_more, own_is, some_counted}
 use Rattle.ranks.proofs.table.own_rank.Goals as goal
-use Rattle.ranks.proofs.table.own_rank.Goals.{else-usable, then-usable}
+
+-- true is 1, and false 0
+byte_is : (b : Bool) → bool_byte b ≡ cond b 1 0
+byte_is true = refl
+byte_is false = refl
 
 pub loop-k-preserved : goal.loop-k-preserved
 loop-k-preserved c =
     let time = c.time_of-time in
-    summed_more c.loop-k.invariant time.result c.if-usable.types c.loop-k-test.true time.ensures (search rules)
-    (elim c.if-usable.branch [
-      | then-usable w ↦ rw (lt-ltb 0 time.result (omega (arith, w.if-usable.true))) w.types-is
-      | else-usable w ↦ rw (le-ltb 0 time.result (omega (arith, w.if-usable.false))) (omega arith)
-    ])
+    rw c.from-total.ensures
+    (summed_more c.loop-k.invariant time.result (c.loop-k.types + c.from-types.result) c.loop-k-test.true time.ensures
+    (search rules) (ap (λ (n : ℕ). c.loop-k.types + n) (c.from-types.ensures ∙ byte_is (ltb 0 time.result))))
 
 pub loop-k-init : goal.loop-k-init
 loop-k-init c = summed_none

@@ -1,15 +1,27 @@
 -- `ranks::table::table_of` meets its contract: the ranks of the tasks passed are in the table. Assumes nothing.
-use Rattle.ranks.proofs.Filling.{known_none, known_next, known_all}
+use mathlib.Core.Path.{sym, ap, ◌∙◌, subst}
+use Prim.Native.Nat.{◌<◌}
+use Rattle.plan.specs.declared.Plan.{Plan}
+use Rattle.ranks.specs.Steps.{Noted, RankFound}
+use Rattle.ranks.proofs.Filling.{noted_none, known_next, known_all}
 use Rattle.ranks.proofs.table.table_of.Goals as goal
 
-pub loop-t-init : goal.loop-t-init
-loop-t-init c = known_none
+pub invariant_of-known : goal.invariant_of-known
+invariant_of-known c = record { ready = c.requires; noted = noted_none }
 
 pub rank-requires : goal.rank-requires
-rank-requires c = record { ready = c.requires; t_lt_tasks = c.loop-t-test.true; noted = c.loop-t.invariant.noted }
+rank-requires c = subst (λ (q : Plan). c.loop-t.t < q.tasks) (sym c.loop-t.invariant.0) c.loop-t-test.true
 
 pub loop-t-preserved : goal.loop-t-preserved
-loop-t-preserved c = known_next c.loop-t.invariant c.loop-t-test.true c.rank.ensures
+loop-t-preserved c = (
+  ap (λ b. b.now) c.rank.ensures.kept ∙ c.loop-t.invariant.0,
+  known_next c.loop-t.invariant.1 c.loop-t-test.true
+      (subst (λ (q : Plan). RankFound q.wcet q.predecessors q.tasks c.loop-t.t c.loop-t.known.table c.rank.new.self.table c.rank.result)
+      c.loop-t.invariant.0 c.rank.ensures.found),
+)
 
 pub returns : goal.returns
-returns c = known_all c.loop-t.invariant c.loop-t-test.false
+returns c =
+    known_all
+    (subst (λ (q : Plan). ∥ Noted q.wcet q.predecessors q.tasks c.loop-t.known.table ∥₁) c.loop-t.invariant.0 c.loop-t.known.noted)
+    c.loop-t.invariant.1 c.loop-t-test.false

@@ -1,13 +1,12 @@
--- `table_lines::decimal::decimal_length` meets its contract: those counted and those left are one more than all. Assumes nothing.
+-- `table_lines::decimal::decimal_length` meets its contract. Assumes nothing.
+use mathlib.Core.Path.{sym}
 use native.Mathlib.Omega.{arith}
-use Rattle.table_lines.proofs.Digits.{decimal_longest, length_one, length_more}
+use Rattle.table_lines.proofs.Digits.{length_one, length_power}
 use Rattle.table_lines.proofs.decimal.decimal_length.Goals as goal
 
-pub overflow_add-n : goal.overflow_add-n
-overflow_add-n c = omega (arith, decimal_longest c.args.x)
+pub returns-in-Some : goal.returns-in-Some
+returns-in-Some c =
+    let e = c.in-Some.ensures in (sym (length_power _ _ e.bound e.power_le e.next_power_gt), omega (arith, e.bound))
 
-pub loop-left-preserved : goal.loop-left-preserved
-loop-left-preserved c = omega (arith, length_more c.loop-left.left c.loop-left-test.true (omega arith))
-
-pub returns : goal.returns
-returns c = omega (arith, length_one c.loop-left.left c.loop-left-test.false, decimal_longest c.args.x)
+pub returns-in-None : goal.returns-in-None
+returns-in-None c = (sym (length_one c.args.x (omega (arith, c.in-None.ensures.none))), omega arith)

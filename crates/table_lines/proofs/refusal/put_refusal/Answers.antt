@@ -21,17 +21,17 @@ returns-then-buffer-needed c =
     let a = c.args in
     line_short _ (refusal_line a.number a.place) (omega (arith, refusal_length a.number a.place))
 
-pub put_word-numbered-requires : goal.put_word-numbered-requires
+pub put_bytes-numbered-requires : goal.put_bytes-numbered-requires
 unfolding refusal_line
-put_word-numbered-requires c = room_first _ (room _ c.args.number c.args.place (omega arith))
+put_bytes-numbered-requires c = room_first _ (room _ c.args.number c.args.place (omega arith))
 
 pub put_pair-requires : goal.put_pair-requires
 unfolding refusal_line
-put_pair-requires c = room_then c.put_word-numbered.ensures _ (room _ c.args.number c.args.place (omega arith))
+put_pair-requires c = room_then c.put_bytes-numbered.ensures _ (room _ c.args.number c.args.place (omega arith))
 
 pub returns : goal.returns
 unfolding refusal_line
-returns c = line_put (room _ c.args.number c.args.place (omega arith)) (put_then c.put_word-numbered.ensures c.put_pair.ensures)
+returns c = line_put (room _ c.args.number c.args.place (omega arith)) (put_then c.put_bytes-numbered.ensures c.put_pair.ensures)
 
 pub shape_of-buffer : goal.shape_of-buffer
-shape_of-buffer c = put_length c.put_pair.ensures ∙ put_length c.put_word-numbered.ensures
+shape_of-buffer c = put_length c.put_pair.ensures ∙ put_length c.put_bytes-numbered.ensures

@@ -1,6 +1,0 @@
--- `show::spread::pushed_left` is safe and ends. The measure is what is left of the count. Assumes nothing.
-use Rattle.std.proofs.Common.{◌-◌}
-use Rattle.show_layout.proofs.spread.pushed_left.Given as goal
-
-abbrev pub decreases-loop-i : goal.decreases-loop-i
-decreases-loop-i l = l.n - l.i

@@ -1,6 +1,0 @@
--- `show::form::first_visible` is safe and ends. The measure is what is left of the bytes. Assumes nothing.
-use Rattle.std.proofs.Common.{◌-◌, length}
-use Rattle.show_lines.proofs.form.first_visible.Given as goal
-
-abbrev pub decreases-loop-i : goal.decreases-loop-i
-decreases-loop-i l = length l.s - l.i

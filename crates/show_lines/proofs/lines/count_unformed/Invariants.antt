@@ -1,6 +1,0 @@
--- `show::lines::count_unformed` is safe and ends. The measure is what is left of the lines. Assumes nothing.
-use Rattle.std.proofs.Common.{◌-◌}
-use Rattle.show_lines.proofs.lines.count_unformed.Given as goal
-
-abbrev pub decreases-loop-place : goal.decreases-loop-place
-decreases-loop-place l = 32769 - l.place

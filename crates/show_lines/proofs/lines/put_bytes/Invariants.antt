@@ -1,6 +1,0 @@
--- `show::lines::put_bytes` is safe and ends. The measure is what is left of the bytes. Assumes nothing.
-use Rattle.std.proofs.Common.{◌-◌, length}
-use Rattle.show_lines.proofs.lines.put_bytes.Given as goal
-
-abbrev pub decreases-loop-i : goal.decreases-loop-i
-decreases-loop-i l = length l.s - l.i

@@ -1,6 +1,0 @@
--- `show::axis::grid` is safe and ends. The measure is what is left of the count. Assumes nothing.
-use Rattle.std.proofs.Common.{◌-◌}
-use Rattle.show_marks.proofs.axis.grid.Given as goal
-
-abbrev pub decreases-loop-i : goal.decreases-loop-i
-decreases-loop-i l = 17 - l.i

@@ -1,6 +1,0 @@
--- `show::held::using` is safe and ends. The measure is what is left of the order. Assumes nothing.
-use Rattle.std.proofs.Common.{◌-◌}
-use Rattle.show_reasons.proofs.held.using.Given as goal
-
-abbrev pub decreases-loop-i : goal.decreases-loop-i
-decreases-loop-i l = l.n - l.i

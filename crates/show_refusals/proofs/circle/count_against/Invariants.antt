@@ -1,6 +1,0 @@
--- `show::circle::count_against` is safe and ends. The measure is what is left of the order. Assumes nothing.
-use Rattle.std.proofs.Common.{◌-◌}
-use Rattle.show_refusals.proofs.circle.count_against.Given as goal
-
-abbrev pub decreases-loop-i : goal.decreases-loop-i
-decreases-loop-i l = l.n - l.i

@@ -1,6 +1,0 @@
--- `show::circle::last_choice` is safe and ends. The measure is what is left of the tasks. Assumes nothing.
-use Rattle.std.proofs.Common.{◌-◌}
-use Rattle.show_refusals.proofs.circle.last_choice.Given as goal
-
-abbrev pub decreases-loop-t : goal.decreases-loop-t
-decreases-loop-t l = 64 - l.t

@@ -1,6 +1,0 @@
--- `show::circle::standing_before` is safe and ends. The measure is what is left of the order. Assumes nothing.
-use Rattle.std.proofs.Common.{◌-◌}
-use Rattle.show_refusals.proofs.circle.standing_before.Given as goal
-
-abbrev pub decreases-loop-i : goal.decreases-loop-i
-decreases-loop-i l = 64 - l.i
