@@ -90,7 +90,7 @@ impl State {
     }
 
     // The state one instant on, with the reported tasks finished, and the tasks that then started; or a refusal, with the
-    // state as it was.
+    // state as it was. Both answers are written out: one constructor for both would lay a copy of the state more on the stack.
     pub fn tick(mut self, report: u64) -> Ticked
         ensures { result ≡ ticked self report }
     {

@@ -29,6 +29,7 @@ fn range(
     Ok(())
 }
 
+// One call of `range` for each kind of number, with its own word.
 fn task_range(out: &mut Vec<u8>, t: u32) -> Result<(), AllocError> {
     range(
         out,

@@ -1,6 +1,6 @@
 // Entries of lists by their index.
 
-// 0 past the last.
+// 0 past the last: an index from a plan that the check takes is never past it, so no caller asks.
 pub fn entry<T: Copy + Default>(of: &[T], i: usize) -> T {
     of.get(i).copied().unwrap_or_default()
 }
