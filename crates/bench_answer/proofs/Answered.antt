@@ -1,12 +1,12 @@
 -- From what is read and what is written to the answer. 19 never comes: what is shown fits. Assumes nothing.
-use mathlib.Core.Path.{◌≡◌, refl, sym, ap, subst, ◌∙◌}
+use mathlib.Core.Path.{◌≡◌, refl, sym, ap, ◌∙◌}
 use mathlib.Core.List.{List}
 use mathlib.Core.Logic.{⊎_elim}
 use denote.Ref.{MutBor}
 use Prim.Native.Nat.{ℕ, ◌≤◌}
 use native.Mathlib.Omega.{arith}
 use borrow.Author.Tests.{eq-eqb, ne_eqb}
-use lib.ListN.{length, drop, length-append}
+use lib.ListN.{length}
 use Rattle.plan.specs.declared.Plan.{Plan}
 use Rattle.plan.specs.declared.Constraint.{Constraint}
 use Rattle.plan.specs.declared.Verdict.{Verdict}
@@ -24,16 +24,6 @@ use Rattle.bench_answer.specs.Steps.{Lined, Answered}
 -- n bytes are answered, the text's, and the lent bytes b are b₁ afterwards: the text stands at their start
 abbrev pub Answers : List ℕ → List ℕ → ℕ → List ℕ → Type 0
 Answers text b n b₁ = (n ≡ length text) × (b₁ ≡ at_start text b)
-
--- what is answered is no more than the bytes lent
-pub inside : (answer : List ℕ → List ℕ) (text b : List ℕ) {b₁ : List ℕ} {n : ℕ} → Answers (answer text) b n b₁ → n ≤ length b₁
-inside answer text b h =
-    let t = answer text in omega (arith, h.0, ap length h.1 ∙ length-append t (drop (length t) b))
-
--- to what is read, in the words of the promises
-pub as_read : (text : Answer → List ℕ) (b : List ℕ) {a r : Answer} {b₁ : List ℕ} {n : ℕ} → a ≡ r → Answers (text a) b n b₁
-    → Answers (text r) b n b₁
-as_read text b {b₁ = b₁} {n} e h = subst (λ (a : Answer). Answers (text a) b n b₁) e h
 
 -- ---- the answer to what is read, with what is shown where nothing is refused, in bytes enough for a refusal's line
 

@@ -35,13 +35,6 @@ module _ (wcet starts order chosen : List ℕ) (n instant : ℕ) where
       let e = fun_ext (λ (k : ℕ). tasks_none order (λ j. eqb (entry_at chosen j) k)) in
       record { within = zero-le; is = rw (zero-min n, ap (tabulate most_types) e) (simp tasks_none) }
 
-  pub marked_all : {len k : ℕ} {m : Marks} → n ≤ len → len ≤ k → Marked len k m
-      → m ≡ marks_of wcet starts order chosen len n instant
-  marked_all {len} {k} l g h =
-      let e : k ≡ len = omega (arith, h.within) in
-      let f : min len n ≡ n = omega arith in
-      rw (e, f) at h.is
-
   -- one of the sets of tasks whose worst time comes, at the next position
   reached_more : (i k : ℕ) {x y s w at : ℕ} → x ≡ reached wcet starts order chosen k i
       → s ≡ get_or starts (entry_at order k) 0 → w ≡ time_of wcet (entry_at order k) (entry_at chosen k) → at ≡ i

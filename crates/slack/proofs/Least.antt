@@ -6,7 +6,7 @@ use Rattle.std.proofs.Common.{Option, None, Some}
 use Prim.Native.Nat.{ℕ, ◌+◌, ◌≤◌, ◌<◌}
 use native.Mathlib.Nat.{le_of_lt, lt_of_lt_of_le}
 use native.Mathlib.Omega.{arith}
-use borrow.Author.Count.{below_none, below_more}
+use borrow.Author.Count.{below_more}
 use lib.Dec.{T, ltb→lt, le→leb}
 use lib.IntN.{ℤ, pos, negsuc}
 use lib.Signed.{lt_z, le_z, ◌≤ℤ◌, ◌<ℤ◌, lt_z_no, le_z_yes, ≤ℤ_refl, <ℤ-≤ℤ_trans, clash_ℤ}
@@ -69,9 +69,6 @@ module _ (deadlines : List ℕ) (slacks : List ℤ) where
   pub record Found (t : ℕ) (best : Option (ℕ × ℤ)) : Type 0 where
     pub within : t ≤ most_tasks
     pub so_far : SoFar t best
-
-  pub found_none : Found 0 None
-  found_none = record { within = omega arith; so_far = below_none (λ (u : ℕ). due u ≡ false) }
 
   -- task t takes the place of none, or of the best so far
   module _ {t : ℕ} (l : t < most_tasks) (here : due t ≡ true) where

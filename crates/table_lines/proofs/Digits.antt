@@ -18,15 +18,6 @@ upto_more : (n x : ℕ) → 10 ≤ x → decimal_upto (suc n) x ≡ decimal_upto
 unfolding decimal_upto
 upto_more n x l = rw (le-ltb x 10 l)
 
--- where n digits are enough, one more changes nothing
-upto_enough : (n x : ℕ) → x < 10 ^ suc n → decimal_upto (suc n) x ≡ decimal_upto (suc (suc n)) x
-upto_enough zero x l = upto_one 0 x l ∙ sym (upto_one 1 x l)
-upto_enough (suc n) x l =
-    by_test (ltb x 10) (λ e. upto_one (suc n) x (ltb-true x 10 e) ∙ sym (upto_one (suc (suc n)) x (ltb-true x 10 e)))
-    (λ e. let m : 10 ≤ x = ltb-false x 10 e in
-    upto_more (suc n) x m
-    ∙ ap (λ d. d ++ (48 + x % 10) ∷ []) (upto_enough n (x / 10) (omega arith)) ∙ sym (upto_more (suc (suc n)) x m))
-
 -- with n more to come, the last one comes after those of a tenth
 pub upto_last : (n x : ℕ) → length (decimal_upto (suc n) x) ≡ suc n
     → decimal_upto (suc n) x ≡ decimal_upto n (x / 10) ++ (48 + x % 10) ∷ []
@@ -56,10 +47,6 @@ upto_self (suc n) x =
 pub decimal_one : (x : ℕ) → x < 10 → decimal x ≡ (48 + x) ∷ []
 unfolding decimal
 decimal_one = upto_one 19
-
-pub decimal_more : (x : ℕ) → 10 ≤ x → x < 10 ^ 20 → decimal x ≡ decimal (x / 10) ++ (48 + x % 10) ∷ []
-unfolding decimal
-decimal_more x l h = upto_more 19 x l ∙ ap (λ d. d ++ (48 + x % 10) ∷ []) (upto_enough 18 (x / 10) (omega arith))
 
 -- ---- how many there are
 

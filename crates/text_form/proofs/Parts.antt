@@ -8,7 +8,7 @@ use native.Mathlib.Nat.{le_of_suc-le-suc, not-suc-le-zero}
 use native.Mathlib.Numerals.{add-one}
 use native.Mathlib.Omega.{arith}
 use lib.Dec.{eqb, ltb}
-use lib.ListN.{length, get_or, take, drop, length-drop, drop_of_length-le}
+use lib.ListN.{length, get_or, take, drop, length-drop}
 use lib.Seq.{drop-cons, drop-drop, take_all, length-take-le}
 use borrow.Author.Tests.{eq-eqb, ne_eqb, ltb-true, ltb-false}
 use Rattle.std.specs.List.{position_or_len}
@@ -60,10 +60,6 @@ module _ (separator : ℕ) where
   -- ---- the search for a separator
 
   module _ (s : List ℕ) (i : ℕ) where
-    pub part_ended : length s ≤ i → part_length separator (drop i s) ≡ 0
-    unfolding part_length
-    part_ended l = rw (drop_of_length-le s l)
-
     pub part_found : i < length s → get_or s i 0 ≡ separator → part_length separator (drop i s) ≡ 0
     unfolding part_length
     part_found l e = rw (drop-cons s i 0 l) (simp (eq-eqb _ _ e))
