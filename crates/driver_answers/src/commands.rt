@@ -26,7 +26,7 @@ pub fn bad(out: &mut Answer) {
 }
 
 // The start and the finish of each task.
-fn put_times(out: &mut Answer, starts: &[u32; MOST_TASKS], finishes: &[u32; MOST_TASKS]) {
+pub fn put_times(out: &mut Answer, starts: &[u32; MOST_TASKS], finishes: &[u32; MOST_TASKS]) {
     for (&start, &finish) in starts.iter().zip(finishes) {
         out.number(start);
         out.number(finish);
@@ -179,7 +179,8 @@ impl Kept {
 
     // The ticks of a list follow the start, if it is accepted.
     fn replay(&self, out: &mut Answer, reports: &[u64]) -> Option<()> {
-        if MOST_REPORTS < reports.len() {
+        let count = reports.len();
+        if MOST_REPORTS < count {
             return None;
         }
         let mut numbers = [0; MOST_REPORTS];
@@ -189,15 +190,15 @@ impl Kept {
             self.plan,
             self.constraint,
             reports,
-            &mut numbers,
-            &mut places,
-            &mut sets,
+            &mut numbers[..count],
+            &mut places[..count],
+            &mut sets[..count],
         );
         out.verdict(b"replay", r.number, r.place);
         out.number(r.started);
         if r.number == 0 {
             let ticks = numbers.iter().zip(&places).zip(&sets);
-            for ((&number, &place), &set) in ticks.take(reports.len()) {
+            for ((&number, &place), &set) in ticks.take(count) {
                 out.refusal(number, place);
                 out.number(set);
             }

@@ -4,7 +4,7 @@ use std::io;
 use std::io::Write;
 
 // More than the longest answer: a name and 240 numbers, of which a third may have 20 digits.
-const WIDTH: usize = 4096;
+pub const WIDTH: usize = 4096;
 
 // The first `len` bytes are what is put together, in an array, so that no memory can run out for an answer.
 #[derive(Drop)]

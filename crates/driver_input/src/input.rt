@@ -4,14 +4,14 @@ ghost use Rattle.std.specs.Prelude.{◌≡◌, ◌-◌, ◌+◌, ◌<◌, ◌≤
 use std::io;
 use std::io::Read;
 
-const WIDTH: usize = 65536;
+pub const WIDTH: usize = 65536;
 
 // A line is shorter than this.
 const LONGEST: usize = 1024;
 
 // The bytes from `from` up to `to`, which methods alone see, are read and not yet used. A window that isn't full was filled last at the end of the
 // input. `within` says that the bytes go on with a line that was too long.
-#[derive(Drop)]
+#[derive(Clone, Copy)]
 pub struct Window {
     bytes: [u8; WIDTH],
     from: usize,

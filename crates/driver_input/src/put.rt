@@ -81,7 +81,7 @@ impl Put {
     }
 
     // None, and a plan as it was, where the plan has no such part or place, or the place can't hold the value.
-    fn into_plan(self, p: &mut Plan) -> Option<()> {
+    pub fn into_plan(self, p: &mut Plan) -> Option<()> {
         match self.part {
             Part::Types => set(slice::from_mut(&mut p.types), self.index, self.value),
             Part::Units => set(&mut p.units, self.index, self.value),
@@ -96,7 +96,7 @@ impl Put {
     }
 
     // The same for a constraint.
-    fn into_constraint(self, c: &mut Constraint) -> Option<()> {
+    pub fn into_constraint(self, c: &mut Constraint) -> Option<()> {
         match self.part {
             Part::Length => set(slice::from_mut(&mut c.len), self.index, self.value),
             Part::EntryTask => set(&mut c.order, self.index, self.value),

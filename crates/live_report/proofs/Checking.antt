@@ -1,5 +1,5 @@
 -- What a report is refused with, from the tests one after the other. Assumes nothing.
-use mathlib.Core.Path.{◌≡◌, refl, sym, ◌∙◌}
+use mathlib.Core.Path.{◌≡◌, refl, sym, ap, ◌∙◌}
 use mathlib.Core.Bool.{Bool, false, cond}
 use Prim.Native.Nat.{ℕ}
 use lib.Bits.{bit_and}
@@ -18,6 +18,10 @@ Asked = Result (Unit {0}) Verdict
 
 abbrev none_of : ℕ → ℕ → Asked
 none_of number faulty = cond (eqb faulty 0) (Ok tt) (Err (refused number (lowest faulty)))
+
+-- asked of a set that is equal by value
+pub none_of_at : (number n : ℕ) {o : ℕ} {w : Asked} → w ≡ none_of number n → n ≡ o → w ≡ none_of number o
+none_of_at number n h e = h ∙ ap (none_of number) e
 
 -- the tests where not every task is finished: r are the running tasks, o the overrunning ones, i those reported that do not run
 module _ (m : Marks) (over : Bool) (finished report : ℕ) {r o i : ℕ} (off : over ≡ false) (e : r ≡ without m.started finished)

@@ -6,8 +6,8 @@ ghost use Rattle.plan.specs.Rules.{most_tasks, most_types};
 ghost use Rattle.live_sound.specs.Steps.{all_times_fit, enough_for, sound_by, times_fit};
 
 use live_marks::Marks;
+use number_tests::all_below;
 use plan::{LAST_INSTANT, MOST_TASKS, MOST_TYPES, Plan};
-use task_set::all_below;
 
 // The clauses about the start and the finish of a task, from what a state has of it in six places.
 fn times_fit(begun: bool, done: bool, release: u32, start: u32, finish: u32, instant: u32) -> bool

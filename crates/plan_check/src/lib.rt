@@ -55,6 +55,7 @@ fn first_unmet(p: &Plan, c: &Constraint) -> Option<usize>
 }
 
 // What the check finds of a plan and a constraint that are lent: that it takes both, or 8 to 11 with the place.
+#[tactic(auto, using(crate::proofs::Planned::few))]
 pub fn checked(p: &Plan, c: &Constraint) -> Result<(), Verdict>
     ensures { result ≡ as_result (verdict p.now c.now) }
 {

@@ -6,11 +6,11 @@ ghost use Rattle.task_set.specs.Bounded.{all};
 ghost use Rattle.plan.specs.Rules.{counts_ok, instant_ok, most_pairs, most_tasks, most_types, plan_ok, predecessors_ok, units_ok};
 ghost use Rattle.plan.specs.Steps.{no_type_from, pair_fits, pair_fits_at, rest_ok, types_ok};
 
+use number_tests::all_below;
 use plan::{
     LATEST_DEADLINE, LATEST_RELEASE, LONGEST_TIME, MOST_PAIRS, MOST_TASKS, MOST_TYPES, MOST_UNITS,
     Plan, instant_of, is_usable, predecessors_of,
 };
-use task_set::all_below;
 
 fn counts_ok(types: usize, tasks: usize) -> bool
     ensures { result ≡ counts_ok types tasks }

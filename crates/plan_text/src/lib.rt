@@ -1,10 +1,11 @@
 // Reads a plan text (document 01, "The plan text").
 #![tactic(auto)]
 
-ghost use Rattle.std.specs.Prelude.{◌≡◌};
+ghost use Rattle.std.specs.Prelude.{◌≡◌, ◌≤◌, length};
 ghost use Rattle.plan.specs.Refusals.{no_constraint, no_plan};
 ghost use Rattle.plan_text.specs.Reading.{nothing};
-ghost use Rattle.plan_text.specs.Text.{answer_from, read_text};
+ghost use Rattle.text_form.specs.Form.{most_bytes};
+ghost use Rattle.plan_text.specs.Text.{answer_from, read_text, refused};
 
 use plan::{Constraint, Plan, Verdict};
 use text_fault::{Kind, Seen, line_fault};
@@ -35,14 +36,11 @@ fn no_line() -> Seen
     }
 }
 
-// Fills a plan and a constraint that are all zero by the lines of a text; or says which line is refused.
+// Fills a plan and a constraint that are all zero by the lines of a text that is not too long; or says which line is refused.
 fn read_lines(text: &[u8], p: &mut Plan, c: &mut Constraint) -> Result<(), Verdict>
-    requires { (p.old ≡ no_plan) × (c.old ≡ no_constraint) }
+    requires { ((p.old ≡ no_plan) × (c.old ≡ no_constraint)) × (length text.now ≤ most_bytes) }
     ensures { answer_from result p.new c.new ≡ read_text text.now }
 {
-    if MOST_BYTES < text.len() {
-        return Err(Verdict::refused(1, 0));
-    }
     let mut seen = no_line();
     let mut at = 0;
     let mut place = 1;
@@ -63,10 +61,24 @@ fn read_lines(text: &[u8], p: &mut Plan, c: &mut Constraint) -> Result<(), Verdi
     Ok(())
 }
 
-// The plan and the constraint of a text, or its first refusal.
+fn refuse(v: Verdict) -> Answer
+    ensures { result ≡ refused v.number v.place }
+{
+    Answer {
+        number: v.number,
+        place: v.place,
+        plan: plan::no_plan(),
+        constraint: plan::no_constraint(),
+    }
+}
+
+// The plan and the constraint of a text, or its first refusal. A text that is too long is refused before there is a plan to fill.
 pub fn read(text: &[u8]) -> Answer
     ensures { result ≡ read_text text.now }
 {
+    if MOST_BYTES < text.len() {
+        return refuse(Verdict::refused(1, 0));
+    }
     let mut plan = plan::no_plan();
     let mut constraint = plan::no_constraint();
     match read_lines(text, &mut plan, &mut constraint) {
@@ -76,11 +88,6 @@ pub fn read(text: &[u8]) -> Answer
             plan,
             constraint,
         },
-        Err(refusal) => Answer {
-            number: refusal.number,
-            place: refusal.place,
-            plan: plan::no_plan(),
-            constraint: plan::no_constraint(),
-        },
+        Err(refusal) => refuse(refusal),
     }
 }

@@ -10,12 +10,12 @@ fn has_line(text: &[u8], letter: u8, t: usize) -> bool {
 
 // The tasks of the plan without a line of this letter.
 fn without(text: &[u8], letter: u8, tasks: usize) -> u64 {
-    task_set::set_of(tasks, |t| !has_line(text, letter, t))
+    number_tests::set_of(tasks, |t| !has_line(text, letter, t))
 }
 
 // The tasks with a T line and no C line.
 pub fn unlisted(text: &[u8]) -> u64 {
-    task_set::set_of(
+    number_tests::set_of(
         MOST_TASKS,
         |t| has_line(text, b'T', t) && !has_line(text, b'C', t),
     )
@@ -94,7 +94,7 @@ pub fn missing_choice(out: &mut Vec<u8>, text: &[u8], p: &Plan) -> Result<(), Al
 
 // The types on which a task can run.
 fn usable(text: &[u8], t: usize) -> u64 {
-    task_set::set_of(
+    number_tests::set_of(
         MOST_TYPES,
         |k| lines::find(text, b'T', &[t as u64, k as u64]).is_some(),
     )

@@ -1,11 +1,11 @@
 // The bars of the tasks, with their numbers, deadlines and not-before instants.
+use number_tests::set_of;
 use plan::{MOST_TASKS, Plan};
 use show_layout::rows;
 use show_words::get::entry;
 use show_words::places::{Heights, Places, by_digits, middle};
 use show_words::{arrows, names, put, svg};
 use std::alloc::AllocError;
-use task_set::set_of;
 
 // The tasks with a narrow bar, with a deadline, with one that they miss, and with one beyond the axis; and those with a not-before
 // instant above 0.

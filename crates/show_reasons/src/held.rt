@@ -1,8 +1,9 @@
 // What held a task until its start, in the run of worst times.
+use number_tests::set_of;
 use plan::{Constraint, Plan};
 use show_words::get::entry;
 use simulation::Simulation;
-use task_set::{contains, inserted, member_count, set_of};
+use task_set::{contains, inserted, member_count};
 
 // A plan and a constraint that the check takes, with their run of worst times, and how many digits its instants may have.
 #[derive(Clone, Copy)]

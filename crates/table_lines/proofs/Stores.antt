@@ -1,5 +1,5 @@
 -- Runs of stores, one after the other. Assumes nothing.
-use mathlib.Core.Path.{◌≡◌, refl, sym, ap, ap₂, ◌∙◌}
+use mathlib.Core.Path.{◌≡◌, refl, sym, ap, ap₂, ◌∙◌, subst}
 use mathlib.Core.List.{List, [], ◌∷◌, ◌++◌}
 use Prim.Native.Nat.{ℕ, zero, suc, ◌+◌, ◌-◌, ◌/◌, ◌%◌, ◌≤◌, ◌<◌}
 use native.Mathlib.Nat.{add-zero, le_of_eq}
@@ -49,6 +49,13 @@ room_first {s = s} t h = record { fits = omega (arith, length-append s t) }
 
 pub room_then : {b b₁ s : List ℕ} {at m : ℕ} → Put b at s b₁ m → (t : List ℕ) → Room b at (s ++ t) → Room b₁ m t
 room_then {s = s} p t h = record { fits = omega (arith, length-append s t, put_length p) }
+
+-- the same, where the second begins at a place equal by value
+pub put_then_at : {b b₁ b₂ s t : List ℕ} {at m k n : ℕ} → Put b at s b₁ m → k ≡ m → Put b₁ k t b₂ n → Put b at (s ++ t) b₂ n
+put_then_at {b₁ = b₁} {b₂ = b₂} {t = t} {n = n} p e q = put_then p (subst (λ (i : ℕ). Put b₁ i t b₂ n) e q)
+
+pub room_then_at : {b b₁ s : List ℕ} {at m k : ℕ} → Put b at s b₁ m → k ≡ m → (t : List ℕ) → Room b at (s ++ t) → Room b₁ k t
+room_then_at {s = s} p e t h = record { fits = omega (arith, length-append s t, put_length p) }
 
 -- ---- a number's digits, the last first
 

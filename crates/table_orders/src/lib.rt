@@ -63,6 +63,7 @@ fn write_order(a: &Proposal, buffer: &mut [u8]) -> Result<usize, Verdict>
 }
 
 // The C lines of the order that the bench proposes for a plan.
+#[tactic(auto, using(crate::proofs::Proposed::order_few, crate::proofs::Proposed::order_answer, crate::proofs::Proposed::order_bytes, crate::proofs::Proposed::order_refused, crate::proofs::Proposed::order_untouched))]
 pub fn proposal_table(p: Plan, buffer: &mut [u8]) -> Written
     ensures { (result ≡ order_tabled p (length buffer.old))
         × (buffer.new ≡ order_buffer_after p buffer.old) }

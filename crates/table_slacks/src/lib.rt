@@ -28,6 +28,7 @@ fn write_slacks(p: &Plan, s: &Simulation, buffer: &mut [u8]) -> Result<usize, Ve
 }
 
 // The margins in the run in which each task takes its worst time.
+#[tactic(auto, using(crate::proofs::WorstRun::slack_answer, crate::proofs::WorstRun::slack_bytes, crate::proofs::WorstRun::slack_refused, crate::proofs::WorstRun::slack_untouched))]
 pub fn slack_table(p: Plan, c: Constraint, buffer: &mut [u8]) -> Written
     ensures { (result ≡ slack_tabled p c (length buffer.old))
         × (buffer.new ≡ slack_buffer_after p c buffer.old) }

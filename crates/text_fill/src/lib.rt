@@ -13,9 +13,10 @@ use plan::{Constraint, Plan};
 use text_fault::{Kind, Seen, kind_of};
 use text_form::Line;
 
-// To the plan: each line but a C line. Times lie task by task, as plan::pair_index has it.
+// To the plan: each line but a C line. Times lie task by task, as plan::pair_index has it. A U line counts one type more, if there is
+// room for the count.
 pub fn add_to_plan(p: &mut Plan, line: Line)
-    requires { (p.old.types ≤ most_bytes) × (out_of_range line ≡ false) }
+    requires { ((k n : ℕ) → line ≡ Line.Units k n → p.old.types ≤ most_bytes) × (out_of_range line ≡ false) }
     ensures { p.new
         ≡ record {
           types = counted line Kind.U p.old.types;

@@ -28,6 +28,7 @@ fn write_run(c: &Constraint, s: &Simulation, buffer: &mut [u8]) -> Result<usize,
 }
 
 // The timetable of the run in which each task takes its time of `times`.
+#[tactic(auto, using(crate::proofs::Runs::given_few, crate::proofs::Runs::given_answer, crate::proofs::Runs::given_bytes, crate::proofs::Runs::given_refused, crate::proofs::Runs::given_untouched))]
 pub fn timetable(p: Plan, c: Constraint, times: &[u32], buffer: &mut [u8]) -> Written
     ensures { (result ≡ timetabled p c times.now (length buffer.old))
         × (buffer.new ≡ buffer_after p c times.now buffer.old) }
@@ -37,6 +38,7 @@ pub fn timetable(p: Plan, c: Constraint, times: &[u32], buffer: &mut [u8]) -> Wr
 }
 
 // The timetable of the run in which each task takes its worst time.
+#[tactic(auto, using(crate::proofs::Runs::worst_few, crate::proofs::Runs::worst_answer, crate::proofs::Runs::worst_bytes, crate::proofs::Runs::worst_refused, crate::proofs::Runs::worst_untouched))]
 pub fn worst_timetable(p: Plan, c: Constraint, buffer: &mut [u8]) -> Written
     ensures { (result ≡ worst_timetabled p c (length buffer.old))
         × (buffer.new ≡ worst_buffer_after p c buffer.old) }

@@ -1,20 +1,30 @@
 // Texts that name a limit: in a text t stands for the longest time, l for the latest deadline and r for the latest not-before
 // instant, so that what is stored follows from the limits' names.
-use plan::{LATEST_DEADLINE, LATEST_RELEASE, LONGEST_TIME};
-use std::alloc::Global;
-use std::io;
-use std::io::Write;
+ghost use Rattle.std.specs.Prelude.{◌≡◌, length};
 
-// The text with the limits' digits in place of their names.
-pub fn with_limits(alloc: Global, s: &[u8]) -> io::Result<Vec<u8>> {
-    let mut text = Vec::new(alloc);
-    for &b in s {
-        match b {
-            b't' => write!(text, "{LONGEST_TIME}")?,
-            b'l' => write!(text, "{LATEST_DEADLINE}")?,
-            b'r' => write!(text, "{LATEST_RELEASE}")?,
-            _ => text.write_all(&[b])?,
+use crate::ROOM;
+use itoa::Buffer;
+use plan::{LATEST_DEADLINE, LATEST_RELEASE, LONGEST_TIME};
+
+// Writes the text with the limits' digits in place of their names, as far as there is room, and answers its length.
+pub fn with_limits(s: &[u8], text: &mut [u8; ROOM]) -> usize
+    ensures { length text.new ≡ length text.old }
+{
+    let mut digits = Buffer::new();
+    let mut n = 0;
+    for b in s {
+        let bytes = match *b {
+            b't' => digits.format(LONGEST_TIME).as_bytes(),
+            b'l' => digits.format(LATEST_DEADLINE).as_bytes(),
+            b'r' => digits.format(LATEST_RELEASE).as_bytes(),
+            _ => std::slice::from_ref(b),
+        };
+        for &digit in bytes {
+            if n < ROOM {
+                text[n] = digit;
+                n += 1;
+            }
         }
     }
-    Ok(text)
+    n
 }

@@ -8,14 +8,13 @@ ghost use Rattle.std.specs.Prelude.{◌-◌, ◌<◌, ◌≤◌, length, IfOk};
 
 use bench_answer::{MOST_ANSWER, MOST_SLACK_ANSWER};
 use plan::{Constraint, Plan};
-use std::alloc::Global;
 use std::io;
 use std::io::{BufWriter, Read, Write};
 
 mod limits;
 
-// No input is longer.
-const ROOM: u64 = 262144;
+// No input is longer, nor any text.
+const ROOM: usize = 262144;
 
 fn show_plan<W: Write>(out: &mut W, p: &Plan) -> io::Result<()> {
     write!(
@@ -69,10 +68,16 @@ fn show_slack_answer<W: Write>(out: &mut W, s: &[u8]) -> io::Result<()> {
     out.write_all(&text[..length])
 }
 
-fn show<W: Write>(out: &mut W, s: &[u8]) -> io::Result<()> {
+fn show_text<W: Write>(out: &mut W, s: &[u8]) -> io::Result<()> {
     show_reading(out, s)?;
     show_answer(out, s)?;
     show_slack_answer(out, s)
+}
+
+// One array is lent for all records: it is not cleared for each.
+fn show<W: Write>(out: &mut W, text: &mut [u8; ROOM], s: &[u8]) -> io::Result<()> {
+    let n = limits::with_limits(s, text);
+    show_text(out, text.get(..n).unwrap_or(&[]))
 }
 
 // The line at the front, without its newline, and what follows it.
@@ -85,15 +90,18 @@ fn split_line(bytes: &[u8]) -> (&[u8], &[u8])
     }
 }
 
-// The count that a line has, of any bytes, as the last four bits of each tell; it may be more than the input has room for.
-fn count_of(line: &[u8]) -> usize {
-    line.iter().fold(0usize, |n, &b| {
+// The count that a line has, of any bytes, as the last four bits of each tell; or one that is more than the input has room for.
+fn count_of(line: &[u8]) -> usize
+    ensures { result ≤ 2621455 }
+{
+    let count = line.iter().fold(0usize, |n, &b| {
         n.saturating_mul(10).saturating_add(usize::from(b & 15))
-    })
+    });
+    count.min(ROOM)
 }
 
 // The record at the front, and what follows it. A text ends with the input at the latest.
-fn record<'a, W: Write>(out: &mut W, alloc: Global, bytes: &'a [u8]) -> io::Result<&'a [u8]>
+fn record<'a, W: Write>(out: &mut W, room: &mut [u8; ROOM], bytes: &'a [u8]) -> io::Result<&'a [u8]>
     ensures { IfOk result (λ rest. length rest.now ≤ length bytes.now - 1) }
 {
     let (name, counted) = split_line(bytes);
@@ -102,23 +110,23 @@ fn record<'a, W: Write>(out: &mut W, alloc: Global, bytes: &'a [u8]) -> io::Resu
         .split_at_checked(count_of(count))
         .unwrap_or((left, &[]));
     out.write_all(name)?;
-    let limited = limits::with_limits(alloc, text)?;
-    show(out, &limited)?;
+    show(out, room, text)?;
     Ok(rest)
 }
 
-fn records<W: Write>(out: &mut W, alloc: Global, bytes: &[u8]) -> io::Result<()> {
+fn records<W: Write>(out: &mut W, bytes: &[u8]) -> io::Result<()> {
+    let mut room = [0; ROOM];
     let mut rest = bytes;
     while !rest.is_empty() {
-        rest = record(out, alloc, rest)?;
+        rest = record(out, &mut room, rest)?;
     }
     Ok(())
 }
 
 fn main(rt: HostRuntime) -> io::Result<()> {
     let mut bytes = Vec::new(rt.alloc());
-    rt.stdin().take(ROOM).read_to_end(&mut bytes)?;
+    rt.stdin().take(ROOM as u64).read_to_end(&mut bytes)?;
     let mut out = BufWriter::new(rt.alloc(), rt.stdout())?;
-    records(&mut out, rt.alloc(), &bytes)?;
+    records(&mut out, &bytes)?;
     out.flush()
 }

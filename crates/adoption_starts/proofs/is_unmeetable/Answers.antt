@@ -1,7 +1,8 @@
--- `adoption_starts::is_unmeetable` meets its contract: what the records passed say. Assumes nothing.
+-- `adoption_starts::is_unmeetable` meets its contract, however its tests are written: what the records passed say. Assumes nothing.
 use mathlib.Core.Path.{refl}
 use native.Mathlib.Nat.{lt_of_lt_of_le}
 use native.Mathlib.Omega.{arith}
+use Rattle.std.proofs.lemmas.Bool.Decides.{nat_tests}
 use Rattle.task_set.specs.Bounded.{any, count}
 use Rattle.task_set.proofs.Bounded.{any_step, count_step, count_room}
 use Rattle.task_set.proofs.Upto.{upto_none, upto_more, upto_end}
@@ -27,12 +28,12 @@ loop-j-preserved c = (
   upto_more c.loop-j-test.true
       (any_step _ _ c.loop-j.invariant.0.is
       (delays_by _ _ _ _ (lt_of_lt_of_le c.loop-j-test.true c.requires.0.1.0) c.predecessors_of-needed.type_inv c.requires.1
-      c.intersects.ensures refl)),
+      c.intersects.ensures (grind (arith, nat_tests)))),
   upto_more c.loop-j-test.true (count_step _ _ c.loop-j.invariant.1.is (counted c.from-holders.ensures c.holds.ensures)),
 )
 
 pub returns : goal.returns
 returns c =
     unmeetable_by _ _ _ _ _ refl c.predecessors_of-needed.ensures c.release_of-release.ensures refl
-    (upto_end c.loop-j.invariant.0 c.loop-j-test.false) refl
+    (upto_end c.loop-j.invariant.0 c.loop-j-test.false) (grind (arith, nat_tests))
     (upto_end c.loop-j.invariant.1 c.loop-j-test.false)

@@ -1,22 +1,21 @@
 -- `plan_check::checked` meets its contract. Assumes nothing.
-use mathlib.Core.Path.{◌≡◌, refl, sym, ◌∙◌}
-use mathlib.Core.Bool.{true}
-use Prim.Native.Nat.{◌≤◌}
+use mathlib.Core.Path.{◌≡◌, refl, sym, ap₂, ◌∙◌}
+use mathlib.Core.Bool.{false}
+use Prim.Native.Nat.{ℕ}
+use native.Mathlib.Omega.{arith}
 use borrow.Author.Tests.{ne_eqb}
-use Rattle.plan.specs.Rules.{most_tasks, plan_ok}
-use Rattle.plan.specs.declared.Plan.{Plan}
-use Rattle.plan.specs.Refusals.{verdict}
-use Rattle.plan.proofs.Kept.{few_tasks}
+use lib.Dec.{eqb}
+use Rattle.std.specs.Prelude.{Err}
+use Rattle.plan.specs.declared.Verdict.{Verdict}
+use Rattle.plan.specs.Refusals.{refused, as_result, verdict}
 use Rattle.plan.proofs.Refusing.{err_is_result, ok_is_result}
 use Rattle.plan.proofs.Verdicts.{refused_by_9, refused_by_10, refused_by_11, refused_by_none}
+use Rattle.plan_check.proofs.Planned.{kept, few}
 use Rattle.plan_check.proofs.checked.Goals as goal
 
--- what the call `plan_ok` found, at a place that it leads to
-kept : (p : Plan) {r : _} → r ≡ plan_ok p → r ≡ true → plan_ok p ≡ true
-kept p e h = sym e ∙ h
-
-few : (p : Plan) {r : _} → r ≡ plan_ok p → r ≡ true → p.tasks ≤ most_tasks
-few p e h = few_tasks _ (kept p e h)
+-- a refusal that is answered with a number and a place equal by value
+err_by : {n k m i : ℕ} {r v : Verdict} → r ≡ refused n k → n ≡ m → k ≡ i → eqb m 0 ≡ false → refused m i ≡ v → Err r ≡ as_result v
+err_by e f g z h = err_is_result z (e ∙ ap₂ refused f g) h
 
 pub returns-then-not-plan_ok : goal.returns-then-not-plan_ok
 unfolding verdict
@@ -37,7 +36,7 @@ returns-in-Some c =
 
 pub returns-in-Some-first_unusable : goal.returns-in-Some-first_unusable
 returns-in-Some-first_unusable c =
-    err_is_result refl c.refused-in-Some-first_unusable.ensures
+    err_by c.refused-in-Some-first_unusable.ensures (grind arith) (grind arith) refl
     (refused_by_10 _ _ (kept _ c.plan_ok.ensures c.if-not-plan_ok.false) c.if-len-p.false
     (sym c.in_default.is ∙ c.first_misplaced.ensures) (sym c.in-Some-first_unusable.is ∙ c.first_unusable.ensures))
 

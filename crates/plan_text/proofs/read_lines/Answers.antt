@@ -20,7 +20,7 @@ use Rattle.text_range.specs.Ranges.{out_of_range}
 use Rattle.text_fill.specs.Adding.{counted}
 use Rattle.plan_text.specs.Reading.{Reading, line_fault, line_done}
 use Rattle.plan_text.specs.Text as text
-use Rattle.plan_text.proofs.Texts.{text_long, text_short, text_ended, line_missing, line_taken, line_refused, line_within}
+use Rattle.plan_text.proofs.Texts.{text_short, text_ended, line_missing, line_taken, line_refused, line_within}
 use Rattle.plan_text.proofs.Faultless.{passed}
 use Rattle.plan_text.proofs.Room.{Counted, counted_none, counted_more, counted_le, room}
 use Rattle.plan_text.proofs.read_lines.Goals as goal
@@ -48,18 +48,14 @@ numbered TooLate e = omega arith
 numbered Unknown e = omega arith
 numbered Repeated e = omega arith
 
-pub returns-then-text-gt-MOST_BYTES : goal.returns-then-text-gt-MOST_BYTES
-returns-then-text-gt-MOST_BYTES c =
-    rw c.refused.ensures (sym (text_long c.args.text.now c.if-text-gt-MOST_BYTES.true))
-
 pub loop-at-init : goal.loop-at-init
 loop-at-init c =
-    rw (c.requires.0, c.requires.1, c.no_line-seen.ensures)
-    (search rules, search rules, text_short _ c.if-text-gt-MOST_BYTES.false, counted_none, search rules)
+    rw (c.requires.0.0, c.requires.0.1, c.no_line-seen.ensures)
+    (search rules, search rules, text_short _ c.requires.1, counted_none, search rules)
 
 pub returns-in_default : goal.returns-in_default
 returns-in_default c =
-    rw c.refused-in_default.ensures
+    rw c.refused.ensures
     (sym (c.loop-at.invariant.2
     ∙ line_missing c.args.text.now c.loop-at.at c.loop-at.place (so_far c.loop-at.p c.loop-at.c c.loop-at.seen) c.loop-at-test.true
     (sym c.line_at.ensures ∙ c.in_default.is)))
@@ -74,7 +70,7 @@ returns-in-Some-line_fault c =
 
 pub add_to_plan-requires : goal.add_to_plan-requires
 add_to_plan-requires c = (
-  omega (arith, c.loop-at.invariant, c.if-text-gt-MOST_BYTES.false),
+  λ k n e. omega (arith, c.loop-at.invariant, c.requires.1),
   range (so_far c.loop-at.p c.loop-at.c c.loop-at.seen) c.in-Some.line c.line_fault.ensures c.in_default-line_fault.is,
 )
 
@@ -87,10 +83,10 @@ pub overflow_add-at : goal.overflow_add-at
 overflow_add-at c =
     let b = line_within c.args.text.now c.loop-at.at c.loop-at.place (so_far c.loop-at.p c.loop-at.c c.loop-at.seen)
     c.loop-at-test.true c.in-Some.line c.in-Some.end (sym c.line_at.ensures ∙ c.in-Some.is) in
-    omega (arith, b, c.if-text-gt-MOST_BYTES.false)
+    omega (arith, b, c.requires.1)
 
 pub overflow_add-place : goal.overflow_add-place
-overflow_add-place c = omega (arith, c.loop-at.invariant, c.if-text-gt-MOST_BYTES.false)
+overflow_add-place c = omega (arith, c.loop-at.invariant, c.requires.1)
 
 pub loop-at-smaller : goal.loop-at-smaller
 loop-at-smaller c =

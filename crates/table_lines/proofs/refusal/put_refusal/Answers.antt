@@ -7,7 +7,7 @@ use Rattle.table_lines.specs.Decimal.{decimal}
 use native.Mathlib.Omega.{arith}
 use Rattle.table_lines.specs.Refusal.{refusal_line}
 use Rattle.table_lines.specs.Steps.{Room}
-use Rattle.table_lines.proofs.Stores.{put_then, put_length, room_first, room_then}
+use Rattle.table_lines.proofs.Stores.{put_then_at, put_length, room_first, room_then_at}
 use Rattle.table_lines.proofs.Outcomes.{refusal_length, line_short, line_put}
 use Rattle.table_lines.proofs.refusal.put_refusal.Goals as goal
 
@@ -27,11 +27,11 @@ put_bytes-numbered-requires c = room_first _ (room _ c.args.number c.args.place 
 
 pub put_pair-requires : goal.put_pair-requires
 unfolding refusal_line
-put_pair-requires c = room_then c.put_bytes-numbered.ensures _ (room _ c.args.number c.args.place (omega arith))
+put_pair-requires c = room_then_at c.put_bytes-numbered.ensures (omega arith) _ (room _ c.args.number c.args.place (omega arith))
 
 pub returns : goal.returns
 unfolding refusal_line
-returns c = line_put (room _ c.args.number c.args.place (omega arith)) (put_then c.put_bytes-numbered.ensures c.put_pair.ensures)
+returns c = line_put (room _ c.args.number c.args.place (omega arith)) (put_then_at c.put_bytes-numbered.ensures (omega arith) c.put_pair.ensures)
 
 pub shape_of-buffer : goal.shape_of-buffer
 shape_of-buffer c = put_length c.put_pair.ensures ∙ put_length c.put_bytes-numbered.ensures

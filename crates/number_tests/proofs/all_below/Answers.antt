@@ -1,9 +1,9 @@
--- `task_set::all_below` meets its contract: `ok` tells of the numbers before i. Assumes nothing.
+-- `number_tests::all_below` meets its contract: `ok` tells of the numbers before i. Assumes nothing.
 use mathlib.Core.Path.{refl, sym, ap₂, ◌∙◌}
 use mathlib.Core.Bool.{◌&&◌}
 use Rattle.task_set.specs.Bounded.{all}
 use Rattle.task_set.proofs.Bounded.{all_next}
-use Rattle.task_set.proofs.all_below.Goals as goal
+use Rattle.number_tests.proofs.all_below.Goals as goal
 
 pub loop-i-init : goal.loop-i-init
 unfolding all

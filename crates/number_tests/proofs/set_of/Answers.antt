@@ -1,9 +1,9 @@
--- `task_set::set_of` meets its contract: the set of those before t that pass. Assumes nothing.
+-- `number_tests::set_of` meets its contract: the set of those before t that pass. Assumes nothing.
 use mathlib.Core.Path.{refl, sym, ◌∙◌}
 use Rattle.task_set.specs.Sets.{set_of}
 use Rattle.task_set.proofs.Members.{set_of_next}
-use Rattle.task_set.proofs.set_of.Goals as goal
-use Rattle.task_set.proofs.set_of.Goals.{then-test, else-test}
+use Rattle.number_tests.proofs.set_of.Goals as goal
+use Rattle.number_tests.proofs.set_of.Goals.{then-test, else-test}
 
 pub loop-t-init : goal.loop-t-init
 unfolding set_of

@@ -1,7 +1,7 @@
--- `task_set::all_below` meets its contract: `ok` tells of the numbers before i. Assumes nothing.
+-- `number_tests::all_below` meets its contract: `ok` tells of the numbers before i. Assumes nothing.
 use Rattle.std.proofs.Common.{◌≡◌, ◌<◌, ℕ, Bool}
 use Rattle.task_set.specs.Bounded.{all}
-use Rattle.task_set.proofs.all_below.Given as goal
+use Rattle.number_tests.proofs.all_below.Given as goal
 
 abbrev pub invariant-loop-i : goal.invariant-loop-i
 invariant-loop-i g l =

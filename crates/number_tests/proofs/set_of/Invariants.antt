@@ -1,7 +1,7 @@
--- `task_set::set_of` meets its contract: the set of those before t that pass. Assumes nothing.
+-- `number_tests::set_of` meets its contract: the set of those before t that pass. Assumes nothing.
 use Rattle.std.proofs.Common.{◌≡◌, ◌<◌, ℕ, Bool}
 use Rattle.task_set.specs.Sets.{set_of}
-use Rattle.task_set.proofs.set_of.Given as goal
+use Rattle.number_tests.proofs.set_of.Given as goal
 
 abbrev pub invariant-loop-t : goal.invariant-loop-t
 invariant-loop-t g l =
